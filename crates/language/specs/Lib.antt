@@ -1,0 +1,17 @@
+pub mod CheckContents
+pub mod CheckForm
+pub mod CheckHead
+pub mod CheckSamples
+pub mod CheckSymbols
+pub mod CheckTwins
+pub mod Checks
+pub mod Grammar
+pub mod Mirror
+pub mod Refusals
+pub mod Relations
+pub mod Reports
+pub mod Sets
+pub mod Stages
+pub mod Symbols
+pub mod Trees
+pub mod Words

@@ -1,0 +1,5 @@
+pub mod Least
+pub mod Masks
+pub mod Rests
+pub mod Sorting
+pub mod Tests

@@ -1,0 +1,1 @@
+// Lemmas on lists, orders, masks and permutations: theory alone, in specs/. Nothing here knows what a row is.

@@ -1,0 +1,17 @@
+pub mod Bounded
+pub mod Chunks
+pub mod Complete
+pub mod Derived
+pub mod Entries
+pub mod Laws
+pub mod Moves
+pub mod Progress
+pub mod Reaches
+pub mod Runs
+pub mod RunsEnd
+pub mod Schedules
+pub mod Segments
+pub mod Sound
+pub mod Spans
+pub mod Starts
+pub mod States
