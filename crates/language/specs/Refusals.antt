@@ -12,6 +12,8 @@ use Rattle.language.specs.declared.Refusal.{Refusal}
 use Rattle.language.specs.declared.Refusal.the-variants.{Head, Contents, Symbol, Form, Twin, Conflict, Empty, TooLong, BadToken, BadCut, NoRoom, NoChunk, AtRest, NoJoin, BadState, Unfinished, NoRelation, NoRule, NotAxiom, SideBySide, NoNonterminal}
 use Rattle.language.specs.declared.Answer.{Answer}
 use Rattle.language.specs.declared.Answer.the-variants.{Done, Refused}
+use Rattle.language.specs.declared.SetAnswer.{SetAnswer}
+use Rattle.language.specs.declared.SetAnswer.the-variants as set
 
 -- the column "No."
 abbrev pub numberOf : Refusal → ℕ
@@ -69,6 +71,19 @@ answerNumber (Refused refusal) = numberOf refusal
 abbrev pub answerValue : Answer → ℕ
 answerValue Done = 0
 answerValue (Refused refusal) = valueOf refusal
+
+-- the answer of asking a set: number 0 with the mask and the size, or a refusal with its value (and no second value)
+abbrev pub setNumber : SetAnswer → ℕ
+setNumber (set.Terminals mask size) = 0
+setNumber (set.Refused refusal) = numberOf refusal
+
+abbrev pub setValue : SetAnswer → ℕ
+setValue (set.Terminals mask size) = mask
+setValue (set.Refused refusal) = valueOf refusal
+
+abbrev pub setSize : SetAnswer → ℕ
+setSize (set.Terminals mask size) = size
+setSize (set.Refused refusal) = 0
 
 -- the one list of the table's numbers
 abbrev pub listed : List ℕ

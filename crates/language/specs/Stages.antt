@@ -5,7 +5,7 @@
 -- Main definitions: Stage, checked, Condition, Given. Main statement: given-exactly.
 use mathlib.Core.Path.{_≡_, refl, ap}
 use mathlib.Core.Logic.{_↔_}
-use mathlib.Core.List.{List, [], _∷_}
+use mathlib.Core.List.{List, [], _∷_, _++_}
 use mathlib.Core.Option.{Option, none, some}
 use Prim.Native.Nat.{ℕ}
 use Rattle.laws.specs.Least.{Least, Nowhere, Finds, nowhere, least, least-once}
@@ -31,6 +31,13 @@ pub record Condition (Input : Type 0) : Type 1 where
 abbrev pub stagesOf : {Input : Type 0} → List (Condition Input) → List (Stage Input)
 stagesOf [] = []
 stagesOf (c ∷ cs) = c .stage ∷ stagesOf cs
+
+-- a condition asked of a part of a larger input
+abbrev pub asked : {Input Part : Type 0} → (Input → Part) → Condition Part → Condition Input
+asked part c = record {
+  stage = record { refusal = c .stage .refusal; failsAt = λ input. c .stage .failsAt (part input) };
+  Holds = λ input. c .Holds (part input);
+}
 
 -- "Given exactly when": every earlier condition holds nowhere, this one holds at v, and at nothing smaller
 pub data Given {Input : Type 0} (input : Input) : List (Condition Input) → Answer → Type 1 where
@@ -70,3 +77,19 @@ module _ {Input : Type 0} (input : Input) where
   -- where no check is left, nothing is refused
   pub none-left : {A : Type 0} {refusal : Refusal} → Given input [] (Refused refusal) → A
   none-left g = elim g [ ]
+
+-- two lists of stages, one after the other
+abbrev pub thenChecked : {Input : Type 0} → Answer → List (Stage Input) → Input → Answer
+thenChecked Done stages input = checked stages input
+thenChecked (Refused refusal) stages input = Refused refusal
+
+pub checked-append : {Input : Type 0} (first second : List (Stage Input)) (input : Input)
+    → checked (first ++ second) input ≡ thenChecked (checked first input) second input
+checked-append [] second input = refl
+checked-append (stage ∷ first) second input = go (stage .failsAt input) (checked-append first second input)
+  where
+    go : (found : Option ℕ) → checked (first ++ second) input ≡ thenChecked (checked first input) second input
+        → _≡_ {A = Answer} (elim found [ none ↦ checked (first ++ second) input | some v ↦ Refused (stage .refusal v) ])
+        (thenChecked (elim found [ none ↦ checked first input | some v ↦ Refused (stage .refusal v) ]) second input)
+    go none ih = ih
+    go (some v) ih = refl

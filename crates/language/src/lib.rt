@@ -34,6 +34,12 @@ pub enum Answer {
     Refused(Refusal),
 }
 
+// The answer of asking a set: its terminals as a mask, bit t for terminal t, and how many they are.
+pub enum SetAnswer {
+    Terminals(u64, u32),
+    Refused(Refusal),
+}
+
 // The table's number of a refusal.
 pub fn number(refusal: Refusal) -> u32
     ensures { λ r. ⌜ r ≡ numberOf refusal ⌝ }

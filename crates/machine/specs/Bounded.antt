@@ -20,7 +20,7 @@ use Rattle.machine.specs.Laws.{EndMark}
 use Rattle.machine.specs.Chunks.{Status, running, stuck, Chunk, joined}
 use Rattle.machine.specs.States.{State, live, unreadFrom, start}
 use Rattle.machine.specs.RunsEnd.{terminalsOn, terminalsUnread, terminals-cons, MarksFine, fine-empty, fine-unmarked, on-reading, on-replacing}
-use Rattle.machine.specs.Schedules.{Turned, Schedule, Made, has-read, has-replaced, got-stuck, Changed, moves-one, joins-two, further, Changes, no-change, one-change, listed, schedule-listed}
+use Rattle.machine.specs.Schedules.{firstStack, Turned, Schedule, Made, has-read, has-replaced, got-stuck, Changed, moves-one, joins-two, further, Changes, no-change, one-change, listed, schedule-listed}
 use Rattle.machine.specs.Starts.{NoEnd, together, firstChunk, laterChunk, begun}
 
 -- 1 for a chunk that is not stuck
@@ -71,10 +71,6 @@ module _ {Value : Type 0} where
   pub data AllFine : List (Chunk Value) → Type 0 where
     all-fine-nil : AllFine []
     all-fine-cons : {c : Chunk Value} {chunks : List (Chunk Value)} → MarksFine (c .stack) → AllFine chunks → AllFine (c ∷ chunks)
-
-  abbrev pub firstStack : List (Chunk Value) → List (Entry Value)
-  firstStack [] = []
-  firstStack (c ∷ chunks) = c .stack
 
   -- where the potential falls: the first live chunk's stack is not empty, and no mark stands on a #
   pub record Falls (chunks : List (Chunk Value)) : Type 0 where

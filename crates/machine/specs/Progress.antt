@@ -3,7 +3,7 @@
 -- Rests on Schedules and Starts.
 --
 -- Main definition: Finished. Main statements: finished-not-16, not-16-finished (finished rows are those that do not answer 16),
--- onward, progress, some-live-start, some-live-kept.
+-- onward, progress, finished-no-turn, some-live-start, some-live-kept.
 use mathlib.Core.Path.{_≡_, refl, sym, ap, _∙_}
 use mathlib.Core.Bool.{Bool, true, false, true≢false, false≢true}
 use mathlib.Core.List.{List, [], _∷_, _++_}
@@ -17,7 +17,7 @@ use Rattle.machine.specs.Entries.{Unread}
 use Rattle.machine.specs.Moves.{Table, Stuck, noRelation, noRule, notAxiom, sideBySide}
 use Rattle.machine.specs.Chunks.{Status, running, stuck, Chunk, Turn, rests, makes, atRest, restsSo, turn, joined}
 use Rattle.machine.specs.States.{State, Next, chunkAt, madeAt, step, under, nextLive, joinWith, join, live, start, Outcome, refusedRow, outcomeOf, outcome, placeOf, refusalOf}
-use Rattle.machine.specs.Schedules.{Turned, by-step, by-join, Turns, at-rest, in-motion, turned, Changed, moves-one, joins-two, further, listed, Follows, nothing, follows, next-live}
+use Rattle.machine.specs.Schedules.{Made, has-read, has-replaced, got-stuck, Turned, by-step, by-join, Turns, at-rest, in-motion, turned, Changed, moves-one, joins-two, further, listed, Follows, nothing, follows, next-live}
 use Rattle.machine.specs.Starts.{begun}
 
 -- one live chunk, at rest
@@ -96,6 +96,18 @@ module _ {Value : Type 0} (table : Table Value) where
       go (moves-one m) = omega arith
       go (joins-two a b) = omega arith
       go (further m) = omega arith
+
+  -- and a finished row is one that allows no turn
+  pub finished-no-turn : {s s′ : State Value} → Finished s → Turned table s s′ → ⊥
+  finished-no-turn {s} {s′} (finished c q a) t = none-left (rw q at (listed table t .changed)) a
+    where
+      moves-not-at-rest : {c c′ : Chunk Value} {made : List (Reduction Value)} → Made table c made c′ → atRest c ≡ true → ⊥
+      moves-not-at-rest (has-read b h) a = false≢true a
+      moves-not-at-rest (has-replaced b h) a = false≢true a
+      moves-not-at-rest (got-stuck b h) a = false≢true a
+
+      none-left : {c : Chunk Value} {chunks′ : List (Chunk Value)} {made : List (Reduction Value)} → Changed table (c ∷ []) made chunks′ → atRest c ≡ true → ⊥
+      none-left (moves-one m) a = moves-not-at-rest m a
 
 pub some-live-start : (tokens cuts : List ℕ) → 0 < length (live (start tokens cuts .chunks))
 some-live-start tokens cuts = rw (begun tokens cuts .chunks) (omega arith)

@@ -9,9 +9,9 @@ use mathlib.Core.List.{List, [], _∷_}
 use mathlib.Core.Option.{some}
 use Prim.Native.Nat.{ℕ, zero, suc, _+_, _≤_, _<_}
 use native.Mathlib.Omega.{arith}
-use borrow.Author.Tests.{ne-eqb}
 use lib.Dec.{eqb}
 use lib.ListN.{length}
+use Rattle.laws.specs.Tests.{ne-eqb}
 use Rattle.language.specs.Symbols.{yields}
 use Rattle.language.specs.Trees.{Reduction}
 use Rattle.machine.specs.Entries.{Unread, terminalAt, nonterminalAt, Entry, terminalOn, nonterminalOn, valueOf, Handle, handleOf}
@@ -53,7 +53,8 @@ module _ {Value : Type 0} where
     pub terminals : suc (terminalsOn (h .below)) ≤ terminalsOn s
     pub fine : MarksFine (h .below)
 
-  less-marked : (h : Handle Value) (above : List (Unread Value)) {s : List (Entry Value)} (a : ℕ) (v : Value) → eqb a 0 ≡ false → MarksFine s
+  less-marked : (h : Handle Value) (above : List (Unread Value)) {s : List (Entry Value)} (a : ℕ) (v : Value) → eqb a 0 ≡ false
+      → MarksFine s
       → handleOf (terminalOn true a v ∷ s) above ≡ some h → Less (terminalOn true a v ∷ s) h
   less-marked h above a v i fine-empty q =
       let z : record { symbols = terminalAt a v ∷ above; below = [] } ≡ h = cc in
@@ -70,8 +71,10 @@ module _ {Value : Type 0} where
 
   pub less : {h : Handle Value} {s : List (Entry Value)} (above : List (Unread Value)) → MarksFine s → handleOf s above ≡ some h → Less s h
   less above fine-empty q = let z : _≡_ {A = ℕ} 0 1 = cc in absurd (omega arith)
-  less above (fine-nonterminal {k = k} {v = v} o) q = let l = less (nonterminalAt k v ∷ above) o q in record { size = omega arith; terminals = l .terminals; fine = l .fine }
-  less above (fine-unmarked {a = a} {v = v} o) q = let l = less (terminalAt a v ∷ above) o q in record { size = omega arith; terminals = omega arith; fine = l .fine }
+  less above (fine-nonterminal {k = k} {v = v} o) q =
+      let l = less (nonterminalAt k v ∷ above) o q in record { size = omega arith; terminals = l .terminals; fine = l .fine }
+  less above (fine-unmarked {a = a} {v = v} o) q =
+      let l = less (terminalAt a v ∷ above) o q in record { size = omega arith; terminals = omega arith; fine = l .fine }
   less {h} above (fine-marked {a = a} {v = v} i o) q = less-marked h above a v i o q
 
   -- what a reading and a replacing do to the length of a stack and its terminals
@@ -92,13 +95,16 @@ module _ {Value : Type 0} (table : Table Value) (ends : EndMark table) where
   pub on-reading : {s s′ : List (Entry Value)} {x : Unread Value} → MarksFine s → Moved table s x (reads s′) → Read s s′ x
   on-reading o (by-rule-1 h) = record { size = omega arith; terminals = omega arith; fine = fine-nonterminal o }
   on-reading o (by-rule-2 t) = record { size = omega arith; terminals = omega arith; fine = fine-unmarked o }
-  on-reading o (by-rule-4-yields {a = a} {b = b} t r) = record { size = omega arith; terminals = omega arith; fine = fine-marked (not-to-end a b r) o }
+  on-reading o (by-rule-4-yields {a = a} {b = b} t r) =
+      record { size = omega arith; terminals = omega arith; fine = fine-marked (not-to-end a b r) o }
   on-reading o (by-rule-4-equal t r i) = record { size = omega arith; terminals = omega arith; fine = fine-unmarked o }
   on-reading o (by-rule-4-last t r i w) = record { size = omega arith; terminals = omega arith; fine = o }
   on-reading o (by-rule-6 t r q) = record { size = omega arith; terminals = omega arith; fine = fine-unmarked o }
 
-  pub on-replacing : {s s′ : List (Entry Value)} {x : Unread Value} {r : ℕ} {v : Value} → MarksFine s → Moved table s x (replaces r v s′) → Replaced s s′
-  on-replacing o (by-rule-5 h t k q m) = let l = less [] o q in record { size = l .size; terminals = l .terminals; fine = fine-nonterminal (l .fine) }
+  pub on-replacing : {s s′ : List (Entry Value)} {x : Unread Value} {r : ℕ} {v : Value} → MarksFine s → Moved table s x (replaces r v s′)
+      → Replaced s s′
+  on-replacing o (by-rule-5 h t k q m) =
+      let l = less [] o q in record { size = l .size; terminals = l .terminals; fine = fine-nonterminal (l .fine) }
 
   -- a run that ends, its reductions and how it ends
   pub record SomeEnd (s : List (Entry Value)) (u : List (Unread Value)) : Type 0 where
@@ -107,13 +113,16 @@ module _ {Value : Type 0} (table : Table Value) (ends : EndMark table) where
     pub run : Ends table s u reductions out
 
   -- fuel n is enough: each move takes a symbol or a terminal away
-  run-within : (n : ℕ) (s : List (Entry Value)) (u : List (Unread Value)) → MarksFine s → length u + (terminalsOn s + terminalsUnread u) < n → SomeEnd s u
+  run-within : (n : ℕ) (s : List (Entry Value)) (u : List (Unread Value)) → MarksFine s → length u + (terminalsOn s + terminalsUnread u) < n
+      → SomeEnd s u
   run-within zero s u o h = absurd (omega arith)
   run-within (suc n) s [] o h = record { reductions = []; out = over s; run = nothing-unread }
   run-within (suc n) s (x ∷ u) o h = go (move table s x) refl (λ s′ u′ o′ h′. run-within n s′ u′ o′ h′)
     where
       go : (act : Action Value) → move table s x ≡ act
-          → ((s′ : List (Entry Value)) (u′ : List (Unread Value)) → MarksFine s′ → length u′ + (terminalsOn s′ + terminalsUnread u′) < n → SomeEnd s′ u′) → SomeEnd s (x ∷ u)
+          → ((s′ : List (Entry Value)) (u′ : List (Unread Value)) → MarksFine s′
+          → length u′ + (terminalsOn s′ + terminalsUnread u′) < n → SomeEnd s′ u′)
+          → SomeEnd s (x ∷ u)
       go (sticks why) q k = record { reductions = []; out = stuckAt why (valueOf x); run = sticking q }
       go (reads s′) q k =
           let z = on-reading o (rw q at (moved table s x)) in

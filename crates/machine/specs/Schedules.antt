@@ -28,6 +28,11 @@ module _ {Value : Type 0} where
   IsLive none = ⊥
   IsLive (some c) = Unit {0}
 
+  -- the stack of the first chunk of a list
+  abbrev pub firstStack : List (Chunk Value) → List (Entry Value)
+  firstStack [] = []
+  firstStack (c ∷ chunks) = c .stack
+
 module _ {Value : Type 0} (table : Table Value) where
   -- an allowed call: a step of some chunk, or a join of some chunk to the next
   pub data Turned (s s′ : State Value) : Type 0 where

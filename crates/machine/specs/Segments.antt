@@ -4,20 +4,16 @@
 -- Rests on Reaches.
 --
 -- Main definition: Segment. Main statements: top-of-segment, handle-of-segment, replay, reduce-segment.
-use mathlib.Core.Path.{_≡_, refl, ap}
+use mathlib.Core.Path.{_≡_, refl}
 use mathlib.Core.Bool.{Bool, true, false, true≢false, _&&_}
-use mathlib.Core.List.{List, [], _∷_, _++_, append-assoc, append-nil, map}
+use mathlib.Core.List.{List, [], _∷_, _++_, append-assoc, append-nil, map, map-append}
 use mathlib.Core.Option.{some}
 use Prim.Native.Nat.{ℕ}
 use lib.Dec.{eqb}
 use Rattle.language.specs.Symbols.{Symbol, yields, equal, takes}
-use Rattle.machine.specs.Entries.{Unread, terminalAt, nonterminalAt, Entry, terminalOn, nonterminalOn, symbol, valueOf, unmarked, stackSymbols, topTerminal, topIsNonterminal, Handle, handleOf}
+use Rattle.machine.specs.Entries.{Unread, terminalAt, nonterminalAt, Entry, terminalOn, nonterminalOn, symbol, valueOf, unmarked, stackSymbols, topTerminal, topIsNonterminal, handleOf}
 use Rattle.machine.specs.Moves.{Table, replaces, move}
 use Rattle.machine.specs.Reaches.{Reaches, here, reading, trans}
-
-map-append : {A B : Type 0} (f : A → B) (s t : List A) → map f (s ++ t) ≡ map f s ++ map f t
-map-append f [] t = refl
-map-append {B} f (x ∷ s) t = ap {B = List B} (λ r. f x ∷ r) (map-append f s t)
 
 module _ {Value : Type 0} where
   -- what stands on top of e above s, where s has no nonterminal on top
@@ -54,9 +50,12 @@ module _ {Value : Type 0} (table : Table Value) where
   -- terminal of it all. Nothing or a nonterminal comes first, then a marked terminal, then equal ones, nonterminals between.
   pub data Segment (a : ℕ) : Bool → ℕ → List (Entry Value) → Type 0 where
     nothing-yet : Segment a false a []
-    nonterminal-on : {marked : Bool} {x k : ℕ} {v : Value} {e : List (Entry Value)} → Segment a marked x e → topIsNonterminal e ≡ false → Segment a marked x (nonterminalOn k v ∷ e)
-    marked-on : {x y : ℕ} {v : Value} {e : List (Entry Value)} → Segment a false x e → table .relation x y ≡ yields → Segment a true y (terminalOn true y v ∷ e)
-    equal-on : {x y : ℕ} {v : Value} {e : List (Entry Value)} → Segment a true x e → table .relation x y ≡ equal → (eqb x 0 && eqb y 0) ≡ false
+    nonterminal-on : {marked : Bool} {x k : ℕ} {v : Value} {e : List (Entry Value)} → Segment a marked x e → topIsNonterminal e ≡ false
+        → Segment a marked x (nonterminalOn k v ∷ e)
+    marked-on : {x y : ℕ} {v : Value} {e : List (Entry Value)} → Segment a false x e → table .relation x y ≡ yields
+        → Segment a true y (terminalOn true y v ∷ e)
+    equal-on : {x y : ℕ} {v : Value} {e : List (Entry Value)} → Segment a true x e → table .relation x y ≡ equal
+        → (eqb x 0 && eqb y 0) ≡ false
         → Segment a true y (terminalOn false y v ∷ e)
 
   module _ {a : ℕ} (s : List (Entry Value)) (top : topTerminal s ≡ some a) (bare : topIsNonterminal s ≡ false) where
@@ -76,13 +75,19 @@ module _ {Value : Type 0} (table : Table Value) where
     handle-of-segment (equal-on {y = y} {v = v} g h i) above = rw append-assoc (handle-of-segment g (terminalAt y v ∷ above))
 
     -- a segment's symbols, read above any stack whose top is a, give that segment again
-    pub replay : {marked : Bool} {x : ℕ} {e : List (Entry Value)} (u : List (Unread Value)) → Segment a marked x e → Reaches table s (stackSymbols e ++ u) [] (e ++ s) u
+    pub replay : {marked : Bool} {x : ℕ} {e : List (Entry Value)} (u : List (Unread Value)) → Segment a marked x e
+        → Reaches table s (stackSymbols e ++ u) [] (e ++ s) u
     replay u nothing-yet = here
-    replay u (nonterminal-on {k = k} {v = v} {e = e} g h) = rw append-assoc (trans table (replay (nonterminalAt k v ∷ u) g) (reading (rw (top-above e s bare, h)) here))
-    replay u (marked-on {y = y} {v = v} g h) = rw append-assoc (trans table (replay (terminalAt y v ∷ u) g) (reading (rw (top-of-segment g, h)) here))
-    replay u (equal-on {y = y} {v = v} g h i) = rw append-assoc (trans table (replay (terminalAt y v ∷ u) g) (reading (rw (top-of-segment g, h, i)) here))
+    replay u (nonterminal-on {k = k} {v = v} {e = e} g h) =
+        rw append-assoc (trans table (replay (nonterminalAt k v ∷ u) g) (reading (rw (top-above e s bare, h)) here))
+    replay u (marked-on {y = y} {v = v} g h) =
+        rw append-assoc (trans table (replay (terminalAt y v ∷ u) g) (reading (rw (top-of-segment g, h)) here))
+    replay u (equal-on {y = y} {v = v} g h i) =
+        rw append-assoc (trans table (replay (terminalAt y v ∷ u) g) (reading (rw (top-of-segment g, h, i)) here))
 
     -- the reduction of a whole handle at b
-    pub reduce-segment : {x r b : ℕ} {e : List (Entry Value)} (vb : Value) → Segment a true x e → table .relation x b ≡ takes → table .matching (symbolsOf e) ≡ some r
-        → move table (e ++ s) (terminalAt b vb) ≡ replaces r (table .value r (valuesOf e)) (nonterminalOn (table .leftSide r) (table .value r (valuesOf e)) ∷ s)
+    pub reduce-segment : {x r b : ℕ} {e : List (Entry Value)} (vb : Value) → Segment a true x e → table .relation x b ≡ takes
+        → table .matching (symbolsOf e) ≡ some r
+        → move table (e ++ s) (terminalAt b vb)
+        ≡ replaces r (table .value r (valuesOf e)) (nonterminalOn (table .leftSide r) (table .value r (valuesOf e)) ∷ s)
     reduce-segment {e} vb g h i = rw (top-of-segment g, h, handle-of-segment g [], append-nil, map-symbol e, i, map-valueOf e)
