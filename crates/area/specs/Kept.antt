@@ -3,7 +3,7 @@
 -- Document 01: "The shape rules speak only of ranges, lengths and counts".
 -- Rests on Layout, and on machine's Bounded.
 --
--- Main definitions: Lies, Tiles, Kept.
+-- Main definitions: Lies, Tiles, Ending, Kept.
 use mathlib.Core.Path.{_≡_}
 use mathlib.Core.Bool.{Bool, true, false}
 use mathlib.Core.Logic.{_⊎_}
@@ -46,9 +46,14 @@ abbrev pub symbolsOf : List (Chunk Span) → List (Unread Span)
 symbolsOf [] = []
 symbolsOf (c ∷ chunks) = stackSymbols (c .stack) ++ (c .unread ++ symbolsOf chunks)
 
+-- (e) the last of some chunks holds a symbol: so no chunk starts after the # of the end
+pub data LastHolds : List (Chunk Span) → Type 0 where
+  holds : {c : Chunk Span} → 0 < length (c .stack) + length (c .unread) → LastHolds (c ∷ [])
+  later-holds : {c : Chunk Span} {chunks : List (Chunk Span)} → LastHolds chunks → LastHolds (c ∷ chunks)
+
 -- (e) where the last live chunk ends: after the # of the end, or before it where chunk 0 alone is live and has read it
 pub data Ending (n : ℕ) : List (Chunk Span) → ℕ → Type 0 where
-  whole : {chunks : List (Chunk Span)} → Ending n chunks (n + 2)
+  whole : {chunks : List (Chunk Span)} → LastHolds chunks → Ending n chunks (n + 2)
   accepted : {c : Chunk Span} → c .unread ≡ [] → Ending n (c ∷ []) (n + 1)
 
 -- (h) a stuck chunk has something unread, one stuck with 18 has a mark

@@ -13,6 +13,7 @@ pub mod Matching
 pub mod Matrix
 pub mod Mirror
 pub mod Pairwise
+pub mod PassedWords
 pub mod PostOrder
 pub mod Refusals
 pub mod RelationPairs
@@ -21,6 +22,7 @@ pub mod Relations
 pub mod ReportOrder
 pub mod Reports
 pub mod RightSides
+pub mod Samples
 pub mod SetMasks
 pub mod Sets
 pub mod Stages

@@ -92,6 +92,11 @@ room-finds input = go (ltb (input .room) 4096) refl
         none-short : (v : ℕ) → NoRoomForMatrix input v → ⊥
         none-short v (too-short r q) = let h = ltb-false (input .room) 4096 e in omega arith
 
+-- words that load accepts: none of the conditions 1 to 5 holds anywhere, and no pair has two relations
+pub record Accepted (words : List ℕ) : Type 0 where
+  pub passed : Passed words
+  pub free : ConflictFree (grammarOf words)
+
 module _ (words : List ℕ) (room : ℕ) where
   abbrev input : LoadInput
   input = record { words = words; room = room }
@@ -117,11 +122,6 @@ module _ (words : List ℕ) (room : ℕ) where
       back : Passed words → Least (ConflictAt (grammarOf words)) v → loadAnswer words room ≡ Refused (Conflict v)
       back p l = by (Refused (Conflict v)) .1 (passes (p .head) (passes (p .contents) (passes (p .symbols) (passes (p .forms) (passes (p .twins) (fails l))))))
 
-  -- words that load accepts: none of the conditions 1 to 5 holds anywhere, and no pair has two relations
-  pub record Accepted : Type 0 where
-    pub passed : Passed words
-    pub free : ConflictFree (grammarOf words)
-
   no-conflict : Passed words → Nowhere (ConflictAt (grammarOf words)) → ConflictFree (grammarOf words)
   unfolding grammarOf
   no-conflict p n =
@@ -133,26 +133,26 @@ module _ (words : List ℕ) (room : ℕ) where
   free-nowhere f v c = f _ _ (c .1)
 
   -- 11 is given, with value 4,096, exactly when the words are accepted and the run has fewer bytes
-  pub load-room-given : (v : ℕ) → (loadAnswer words room ≡ Refused (NoRoom v)) ↔ (Accepted × (room < 4096) × (v ≡ 4096))
+  pub load-room-given : (v : ℕ) → (loadAnswer words room ≡ Refused (NoRoom v)) ↔ (Accepted words × (room < 4096) × (v ≡ 4096))
   load-room-given v = (λ e. out (by (Refused (NoRoom v)) .0 e), λ l. back (l .0) (l .1) (l .2))
     where
       short : {u : ℕ} → NoRoomForMatrix input u → (room < 4096) × (u ≡ 4096)
       short (too-short r q) = (r, q)
 
-      out : Given input loadConditions (Refused (NoRoom v)) → Accepted × (room < 4096) × (v ≡ 4096)
+      out : Given input loadConditions (Refused (NoRoom v)) → Accepted words × (room < 4096) × (v ≡ 4096)
       out (passes n (passes m (passes k (passes j (passes i (passes h (fails l))))))) =
           let p : Passed words = record { head = n; contents = m; symbols = k; forms = j; twins = i } in
           (record { passed = p; free = no-conflict p h }, short (l .holds) .0, short (l .holds) .1)
       out (passes n (passes m (passes k (passes j (passes i (passes h (passes q g))))))) = none-left input g
 
-      back : Accepted → room < 4096 → v ≡ 4096 → loadAnswer words room ≡ Refused (NoRoom v)
+      back : Accepted words → room < 4096 → v ≡ 4096 → loadAnswer words room ≡ Refused (NoRoom v)
       back a r q =
           let p = a .passed in
           by (Refused (NoRoom v)) .1 (passes (p .head) (passes (p .contents) (passes (p .symbols) (passes (p .forms) (passes (p .twins) (passes (free-nowhere (a .free))
           (fails (record { holds = too-short r q; least = λ u l n. let z = short n .1 in omega arith }))))))))
 
   -- load succeeds exactly when the words are accepted and the run has 4,096 bytes or more
-  pub accepted-exactly : (loadAnswer words room ≡ Done) ↔ (Accepted × (4096 ≤ room))
+  pub accepted-exactly : (loadAnswer words room ≡ Done) ↔ (Accepted words × (4096 ≤ room))
   accepted-exactly = (λ e. out (by Done .0 e), λ l. back (l .0) (l .1))
     where
       long : Nowhere (NoRoomForMatrix input) → 4096 ≤ room
@@ -165,12 +165,12 @@ module _ (words : List ℕ) (room : ℕ) where
       none-short : 4096 ≤ room → (v : ℕ) → NoRoomForMatrix input v → ⊥
       none-short h v (too-short r q) = omega arith
 
-      out : Given input loadConditions Done → Accepted × (4096 ≤ room)
+      out : Given input loadConditions Done → Accepted words × (4096 ≤ room)
       out (passes n (passes m (passes k (passes j (passes i (passes h (passes q passes-all))))))) =
           let p : Passed words = record { head = n; contents = m; symbols = k; forms = j; twins = i } in
           (record { passed = p; free = no-conflict p h }, long q)
 
-      back : Accepted → 4096 ≤ room → loadAnswer words room ≡ Done
+      back : Accepted words → 4096 ≤ room → loadAnswer words room ≡ Done
       back a r =
           let p = a .passed in
           by Done .1 (passes (p .head) (passes (p .contents) (passes (p .symbols) (passes (p .forms) (passes (p .twins) (passes (free-nowhere (a .free))

@@ -5,27 +5,28 @@
 -- count". The cuts are any numbers at all, and the table any table; `same-outcome` asks of it that nothing yields to #.
 -- Rests on LaterChunks, Progress, RunsEnd, and on language's ReportOrder.
 --
--- Main definitions: outcomeOfRun, withoutMoves. Main statements: confluent (against the run of one stack over the whole row),
--- same-outcome (of any two ways to cut and order), uncut-outcome (of which one is uncut).
-use mathlib.Core.Path.{_≡_, refl, sym, ap, _∙_}
-use mathlib.Core.Bool.{Bool, true, false, false≢true}
+-- Main definitions: outcomeOfRun, withoutMoves. Main statements: always-same, confluent (against the run of one stack over the
+-- whole row), stuck-answer, same-outcome (of any two ways to cut and to order), uncut-outcome (of which one is uncut).
+use mathlib.Core.Path.{_≡_, refl, ap, _∙_}
+use mathlib.Core.Bool.{true, false≢true}
 use mathlib.Core.List.{List, [], _∷_, _++_, append-nil, map, List·Permᴰ}
 use Prim.Native.Nat.{ℕ, suc, _+_}
 use native.Mathlib.Omega.{arith}
-use Rattle.laws.specs.Sorting.{TotalOrder, sort-once}
+use Rattle.laws.specs.Sorting.{sort-once}
 use Rattle.language.specs.Trees.{Span, Reduction}
 use Rattle.language.specs.Reports.{standsBefore, putInOrder}
-use Rattle.machine.specs.Entries.{Unread, terminalAt, Entry, valueOf, stackSymbols}
+use Rattle.language.specs.ReportOrder.{report-order}
+use Rattle.machine.specs.Entries.{Unread, Entry, valueOf}
 use Rattle.machine.specs.Moves.{Table, Stuck, sticks, move}
 use Rattle.machine.specs.Laws.{EndMark}
-use Rattle.machine.specs.Chunks.{Status, running, stuck, Chunk, atRest, joined}
+use Rattle.machine.specs.Chunks.{running, stuck, Chunk, atRest, joined}
 use Rattle.machine.specs.States.{State, live, unreadFrom, start, Outcome, refusedRow, reported, refusalOf, outcomeOf, outcome}
 use Rattle.machine.specs.Runs.{Out, over, stuckAt, Ends, nothing-unread, sticking, then-reading, then-replacing}
 use Rattle.machine.specs.RunsEnd.{fine-empty, fine-unmarked, SomeEnd, run-ends}
-use Rattle.machine.specs.Schedules.{Schedule, Made, has-read, has-replaced, got-stuck, Changed, moves-one, joins-two, further, Changes, no-change, one-change, schedule-listed}
+use Rattle.machine.specs.Schedules.{firstStack, Schedule, Made, has-read, has-replaced, got-stuck, Changed, moves-one, joins-two, further, Changes, no-change, one-change, schedule-listed}
 use Rattle.machine.specs.Starts.{NoEnd, together, bottom, firstChunk, laterChunk, begun}
-use Rattle.machine.specs.Progress.{Finished, finished}
-use Rattle.machine.specs.LaterChunks.{later-empty, EndLast, end-last, end-later, continuation, AllLater, all-later-nil, all-later-cons, SameEnd, refuses-alike, ends-alike, whole, changes-same}
+use Rattle.machine.specs.Progress.{Answered, answered-rests}
+use Rattle.machine.specs.LaterChunks.{later-empty, EndLast, end-last, end-later, continuation, ahead, AllLater, all-later-nil, all-later-cons, SameEnd, refuses-alike, ends-alike, Whole, whole, changes-same}
 
 -- what a run of one stack over the whole row answers
 abbrev pub outcomeOfRun : Out Span → List (Reduction Span) → ℕ → Outcome
@@ -65,6 +66,31 @@ module _ {Value : Type 0} (table : Table Value) where
   changes-stand no-change all = all
   changes-stand (one-change m k) all = changes-stand k (all-stand-kept m all)
 
+  -- the first chunk is stuck so, at b
+  pub data StuckFirst (why : Stuck) (b : Unread Value) : List (Chunk Value) → Type 0 where
+    stuck-first : {stack : List (Entry Value)} {unread : List (Unread Value)} {chunks : List (Chunk Value)}
+        → StuckFirst why b (record { stack = stack; unread = b ∷ unread; status = stuck why } ∷ chunks)
+
+  made-running : {c c′ : Chunk Value} {made : List (Reduction Value)} → Made table c made c′ → c .status ≡ running
+  made-running (has-read b h) = refl
+  made-running (has-replaced b h) = refl
+  made-running (got-stuck b h) = refl
+
+  stuck-status : {why : Stuck} {b : Unread Value} {c : Chunk Value} {chunks : List (Chunk Value)} → StuckFirst why b (c ∷ chunks) → c .status ≡ stuck why
+  stuck-status stuck-first = refl
+
+  -- "If c was stuck it stays so with its refusal"
+  pub stuck-stays : {why : Stuck} {b : Unread Value} {chunks chunks′ : List (Chunk Value)} {made : List (Reduction Value)} → Changed table chunks made chunks′
+      → StuckFirst why b chunks → StuckFirst why b chunks′
+  stuck-stays (moves-one m) f = let p = made-running m in let q = stuck-status f in let z : _≡_ {A = ℕ} 0 1 = cc in absurd (omega arith)
+  stuck-stays (joins-two p q) stuck-first = stuck-first
+  stuck-stays (further m) stuck-first = stuck-first
+
+  changes-stuck : {why : Stuck} {b : Unread Value} {chunks chunks′ : List (Chunk Value)} {n : ℕ} {made : List (Reduction Value)} → Changes table chunks n made chunks′
+      → StuckFirst why b chunks → StuckFirst why b chunks′
+  changes-stuck no-change f = f
+  changes-stuck (one-change m k) f = changes-stuck k (stuck-stays m f)
+
   -- a run with nothing unread is over, and one that cannot make its next move is stuck there
   over-now : {stack : List (Entry Value)} {l : List (Reduction Value)} {o : Out Value} → Ends table stack [] l o → (o ≡ over stack) × (l ≡ [])
   over-now nothing-unread = (refl, refl)
@@ -75,60 +101,87 @@ module _ {Value : Type 0} (table : Table Value) where
   stuck-now h (then-reading i e) = cc
   stuck-now h (then-replacing i e) = cc
 
--- the chunks of a start
-later-all : (table : Table Span) (pieces : List (List (Unread Span))) → AllLater table (map laterChunk pieces)
-later-all table [] = all-later-nil
-later-all table (piece ∷ pieces) = all-later-cons later-empty (later-all table pieces)
+-- a start: its first chunk has # on its stack and the whole row ahead
+module _ (table : Table Span) (tokens cuts : List ℕ) where
+  later-all : (pieces : List (List (Unread Span))) → AllLater table (map laterChunk pieces)
+  later-all [] = all-later-nil
+  later-all (piece ∷ pieces) = all-later-cons later-empty (later-all pieces)
 
-stand-all : (table : Table Span) (pieces : List (List (Unread Span))) → AllStand table (map laterChunk pieces)
-stand-all table [] = all-stand-nil
-stand-all table (piece ∷ pieces) = all-stand-cons stands-running (stand-all table pieces)
+  stand-all : (pieces : List (List (Unread Span))) → AllStand table (map laterChunk pieces)
+  stand-all [] = all-stand-nil
+  stand-all (piece ∷ pieces) = all-stand-cons stands-running (stand-all pieces)
 
-continuation-of : (pieces : List (List (Unread Span))) → continuation (map laterChunk pieces) ≡ together pieces
-continuation-of [] = refl
-continuation-of (piece ∷ pieces) = ap (λ rest. piece ++ rest) (continuation-of pieces)
+  continuation-of : (pieces : List (List (Unread Span))) → continuation (map laterChunk pieces) ≡ together pieces
+  continuation-of [] = refl
+  continuation-of (piece ∷ pieces) = ap (λ rest. piece ++ rest) (continuation-of pieces)
 
-row-end-last : (i : ℕ) (tokens : List ℕ) → NoEnd tokens → EndLast (unreadFrom i tokens)
-row-end-last i [] h = end-last
-row-end-last i (a ∷ tokens) h = end-later (h .0) (row-end-last (suc i) tokens (h .1))
+  row-end-last : (i : ℕ) (tokens : List ℕ) → NoEnd tokens → EndLast (unreadFrom i tokens)
+  row-end-last i [] h = end-last
+  row-end-last i (a ∷ tokens) h = end-later (h .0) (row-end-last (suc i) tokens (h .1))
 
-outcome-of : (s : State Span) {c : Chunk Span} {made : List (Reduction Span)} {n : ℕ} → live (s .chunks) ≡ c ∷ [] → s .reductions ≡ made → s .moves ≡ n
-    → outcome s ≡ outcomeOf (c .status) (c .unread) made n
-outcome-of s q r m = rw (q, r, m)
+  start-ahead : ahead (live (start tokens cuts .chunks)) ≡ unreadFrom 0 tokens
+  start-ahead = let b = begun tokens cuts in rw (b .chunks, continuation-of (b .rest)) (b .row)
 
-module _ (order : TotalOrder standsBefore) (table : Table Span) where
-  ending : {c : Chunk Span} {made L : List (Reduction Span)} {o : Out Span} (n : ℕ) → Stands table c → atRest c ≡ true → SameEnd table (c .stack) (c .unread) made L o
+  start-whole : NoEnd tokens → Whole table (live (start tokens cuts .chunks))
+  start-whole h = let b = begun tokens cuts in rw (b .chunks) (whole {c = firstChunk (b .piece)} (later-all (b .rest)) (rw (continuation-of (b .rest), b .row) (row-end-last 0 tokens h)))
+
+  start-stands : AllStand table (live (start tokens cuts .chunks))
+  start-stands = let b = begun tokens cuts in rw (b .chunks) (all-stand-cons stands-running (stand-all (b .rest)))
+
+  start-stack : firstStack (live (start tokens cuts .chunks)) ≡ bottom
+  start-stack = rw (begun tokens cuts .chunks)
+
+  -- at every time of every schedule, the first chunk's run over all that is ahead ends as the run over the whole row does
+  pub always-same : {n : ℕ} {s : State Span} {L : List (Reduction Span)} {o : Out Span} → NoEnd tokens → Schedule table (start tokens cuts) n s
+      → Ends table bottom (unreadFrom 0 tokens) L o → SameEnd table (firstStack (live (s .chunks))) (ahead (live (s .chunks))) (s .reductions) L o
+  always-same {n} {s} {L} {o} h k e =
+      let all = schedule-listed table k in
+      let run : Ends table (firstStack (live (start tokens cuts .chunks))) (ahead (live (start tokens cuts .chunks))) L o = rw (start-stack, start-ahead) e in
+      rw (all .added) (changes-same table (all .changes) (start-whole h) run)
+
+  pub always-stand : {n : ℕ} {s : State Span} → Schedule table (start tokens cuts) n s → AllStand table (live (s .chunks))
+  always-stand k = changes-stand table (schedule-listed table k .changes) start-stands
+
+outcome-of : (s : State Span) {c : Chunk Span} {n : ℕ} → live (s .chunks) ≡ c ∷ [] → s .moves ≡ n → outcome s ≡ outcomeOf (c .status) (c .unread) (s .reductions) n
+outcome-of s q m = rw (q, m)
+
+module _ (table : Table Span) where
+  ending : {c : Chunk Span} {made L : List (Reduction Span)} {o : Out Span} (n : ℕ) → AllStand table (c ∷ []) → atRest c ≡ true → SameEnd table (c .stack) (c .unread ++ []) made L o
       → outcomeOf (c .status) (c .unread) made n ≡ outcomeOfRun o L n
-  ending n (stands-running {unread = []}) a (refuses-alike why v z e) = let h = over-now table e .0 in let z : _≡_ {A = ℕ} 0 1 = cc in absurd (omega arith)
-  ending {made = made} {L = L} n (stands-running {unread = []}) a (ends-alike {L′ = L′} p e) =
+  ending n (all-stand-cons (stands-running {unread = []}) all) a (refuses-alike why v z e) = let h = over-now table e .0 in let z : _≡_ {A = ℕ} 0 1 = cc in absurd (omega arith)
+  ending {made = made} {L = L} n (all-stand-cons (stands-running {unread = []}) all) a (ends-alike {L′ = L′} p e) =
       let h : L′ ≡ [] = over-now table e .1 in
       let q : List·Permᴰ L made = rw (h, append-nil made) at p in
-      rw (over-now table e .0, sort-once standsBefore order q)
-  ending n (stands-running {unread = b ∷ unread}) a s = absurd (false≢true a)
-  ending n (stands-stuck b h) a (refuses-alike why v z e) = rw (stuck-now table h e)
-  ending n (stands-stuck b h) a (ends-alike p e) = rw (stuck-now table h e)
+      rw (over-now table e .0, sort-once standsBefore report-order q)
+  ending n (all-stand-cons (stands-running {unread = b ∷ unread}) all) a s = absurd (false≢true a)
+  ending n (all-stand-cons (stands-stuck b h) all) a (refuses-alike why v z e) = rw (stuck-now table h e)
+  ending n (all-stand-cons (stands-stuck b h) all) a (ends-alike p e) = rw (stuck-now table h e)
 
-  pub confluent : (tokens cuts : List ℕ) {n : ℕ} {s : State Span} {L : List (Reduction Span)} {o : Out Span} → NoEnd tokens → Schedule table (start tokens cuts) n s → Finished s
+  -- the answer of any schedule, however the row is cut, is that of one stack that reads the whole row; its count is its length
+  pub confluent : (tokens cuts : List ℕ) {n : ℕ} {s : State Span} {L : List (Reduction Span)} {o : Out Span} → NoEnd tokens → Schedule table (start tokens cuts) n s → Answered s
       → Ends table bottom (unreadFrom 0 tokens) L o → outcome s ≡ outcomeOfRun o L n
-  confluent tokens cuts {n} {s} {L} {o} t k (finished c q a) e =
-      let b = begun tokens cuts in
-      let all = schedule-listed table k in
-      let r : b .piece ++ continuation (map laterChunk (b .rest)) ≡ unreadFrom 0 tokens = rw (continuation-of (b .rest)) (b .row) in
-      let changes : Changes table (firstChunk (b .piece) ∷ map laterChunk (b .rest)) n (all .made) (c ∷ []) = rw (b .chunks, q) at (all .changes) in
-      let same : SameEnd table (c .stack) (c .unread ++ []) (all .made) L o =
-      changes-same table {L = L} {o = o} changes (whole (later-all table (b .rest)) (rw r (row-end-last 0 tokens t))) (rw r e) in
-      let stands : Stands table c = first-stands (changes-stand table changes (all-stand-cons stands-running (stand-all table (b .rest)))) in
-      outcome-of s q (all .added) (omega (arith, all .counted)) ∙ ending n stands a (rw (append-nil (c .unread)) at same)
+  confluent tokens cuts {n} {s} {L} {o} h k f e =
+      let one = answered-rests s f in
+      let same : SameEnd table (one .chunk .stack) (one .chunk .unread ++ []) (s .reductions) L o = rw (one .only) at (always-same table tokens cuts h k e) in
+      let count : s .moves ≡ n = omega (arith, schedule-listed table k .counted) in
+      outcome-of s (one .only) count ∙ ending n (rw (one .only) at (always-stand table tokens cuts k)) (one .rests) same
+
+  -- once the first live chunk is stuck, that is the answer, whatever the others do
+  pub stuck-answer : {s s′ : State Span} {n : ℕ} {why : Stuck} {b : Unread Span} → StuckFirst table why b (live (s .chunks)) → Schedule table s n s′ → Answered s′
+      → outcome s′ ≡ refusedRow (refusalOf why (valueOf b .first))
+  stuck-answer {s′ = s′} {why = why} {b = b} f k a =
+      let one = answered-rests s′ a in
+      outcome-of s′ (one .only) refl ∙ go (rw (one .only) at (changes-stuck table (schedule-listed table k .changes) f))
     where
-      first-stands : {c : Chunk Span} {chunks : List (Chunk Span)} → AllStand table (c ∷ chunks) → Stands table c
-      first-stands (all-stand-cons s all) = s
+      go : {c : Chunk Span} → StuckFirst table why b (c ∷ []) → outcomeOf (c .status) (c .unread) (s′ .reductions) (s′ .moves) ≡ refusedRow (refusalOf why (valueOf b .first))
+      go stuck-first = refl
 
   -- any two ways to cut a row and to order the calls
   pub same-outcome : EndMark table → (tokens cuts cuts′ : List ℕ) {n n′ : ℕ} {s s′ : State Span} → NoEnd tokens
-      → Schedule table (start tokens cuts) n s → Finished s → Schedule table (start tokens cuts′) n′ s′ → Finished s′ → withoutMoves (outcome s) ≡ withoutMoves (outcome s′)
-  same-outcome ends tokens cuts cuts′ {n} {n′} t k f k′ f′ =
+      → Schedule table (start tokens cuts) n s → Answered s → Schedule table (start tokens cuts′) n′ s′ → Answered s′ → withoutMoves (outcome s) ≡ withoutMoves (outcome s′)
+  same-outcome ends tokens cuts cuts′ {n} {n′} h k f k′ f′ =
       let e = run-ends table ends bottom (unreadFrom 0 tokens) (fine-unmarked fine-empty) in
-      rw (confluent tokens cuts t k f (e .run), confluent tokens cuts′ t k′ f′ (e .run)) (go (e .out) (e .reductions))
+      rw (confluent tokens cuts h k f (e .run), confluent tokens cuts′ h k′ f′ (e .run)) (go (e .out) (e .reductions))
     where
       go : (o : Out Span) (L : List (Reduction Span)) → withoutMoves (outcomeOfRun o L n) ≡ withoutMoves (outcomeOfRun o L n′)
       go (over stack) L = refl
@@ -136,5 +189,5 @@ module _ (order : TotalOrder standsBefore) (table : Table Span) where
 
   -- "The front-to-back parse is C = 1"
   pub uncut-outcome : EndMark table → (tokens cuts : List ℕ) {n n′ : ℕ} {s s′ : State Span} → NoEnd tokens
-      → Schedule table (start tokens cuts) n s → Finished s → Schedule table (start tokens []) n′ s′ → Finished s′ → withoutMoves (outcome s) ≡ withoutMoves (outcome s′)
-  uncut-outcome ends tokens cuts t k f k′ f′ = same-outcome ends tokens cuts [] t k f k′ f′
+      → Schedule table (start tokens cuts) n s → Answered s → Schedule table (start tokens []) n′ s′ → Answered s′ → withoutMoves (outcome s) ≡ withoutMoves (outcome s′)
+  uncut-outcome ends tokens cuts h k f k′ f′ = same-outcome ends tokens cuts [] h k f k′ f′

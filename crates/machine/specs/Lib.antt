@@ -1,3 +1,4 @@
+pub mod AcceptedK
 pub mod AddsItsOwn
 pub mod Allowed
 pub mod AllowedExactly
@@ -27,4 +28,5 @@ pub mod Sound
 pub mod Spans
 pub mod Starts
 pub mod States
+pub mod TableOf
 pub mod UncutRow

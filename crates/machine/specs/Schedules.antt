@@ -161,22 +161,17 @@ module _ {Value : Type 0} (table : Table Value) where
   join-answer c s = go (chunkAt s c) refl
     where
       by₂ : (chunk : Chunk Value) (next : Next Value) (a b : Bool) → atRest chunk ≡ a → atRest (next .chunk) ≡ b → chunkAt s c ≡ some chunk
-          → Follows (drop (suc c) (s .chunks)) (some next)
-          → Answer table s (elim a [
-            | false ↦ refused NoJoin
-            | true ↦ elim b [
-              | false ↦ refused NoJoin
-              | true ↦ became (record {
-                chunks = take c (s .chunks) ++ (some (joined chunk (next .chunk)) ∷ next .rest);
-                reductions = s .reductions;
-                moves = s .moves + 1;
-              })
-            ]
-          ])
-      by₂ chunk next false b p r q f = refuses
-      by₂ chunk next true false p r q f = refuses
+          → Follows (drop (suc c) (s .chunks)) (some next) → Answer table s (joinWith c s chunk next)
+      by₂ chunk next false b p r q f = rw (p, joinWith) refuses
+      by₂ chunk next true false p r q f = rw (p, joinWith, r) refuses
       by₂ chunk next true true p r q f =
-          becomes (record { made = []; changed = join-listed (s .chunks) c next q f p r; added = sym (append-nil _); counted = refl; zero-stays = zero-after-join (s .chunks) c (joined chunk (next .chunk)) (next .rest) })
+          rw (p, joinWith, r) (becomes (record {
+            made = [];
+            changed = join-listed (s .chunks) c next q f p r;
+            added = sym (append-nil _);
+            counted = refl;
+            zero-stays = zero-after-join (s .chunks) c (joined chunk (next .chunk)) (next .rest);
+          }))
 
       by : (chunk : Chunk Value) (o : Option (Next Value)) → chunkAt s c ≡ some chunk → Follows (drop (suc c) (s .chunks)) o
           → Answer table s (elim o [ none ↦ refused NoJoin | some next ↦ joinWith c s chunk next ])
