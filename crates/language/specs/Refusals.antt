@@ -14,6 +14,10 @@ use Rattle.language.specs.declared.Answer.{Answer}
 use Rattle.language.specs.declared.Answer.the-variants.{Done, Refused}
 use Rattle.language.specs.declared.SetAnswer.{SetAnswer}
 use Rattle.language.specs.declared.SetAnswer.the-variants as set
+use Rattle.language.specs.declared.RunAnswer.{RunAnswer}
+use Rattle.language.specs.declared.RunAnswer.the-variants as run
+use Rattle.language.specs.declared.ReportAnswer.{ReportAnswer}
+use Rattle.language.specs.declared.ReportAnswer.the-variants as report
 
 -- the column "No."
 abbrev pub numberOf : Refusal → ℕ
@@ -84,6 +88,28 @@ setValue (set.Refused refusal) = valueOf refusal
 abbrev pub setSize : SetAnswer → ℕ
 setSize (set.Terminals mask size) = size
 setSize (set.Refused refusal) = 0
+
+-- the answer of a run: number 0 with the moves made, or a refusal with its value
+abbrev pub runNumber : RunAnswer → ℕ
+runNumber (run.Moves made) = 0
+runNumber (run.Refused refusal) = numberOf refusal
+
+abbrev pub runValue : RunAnswer → ℕ
+runValue (run.Moves made) = made
+runValue (run.Refused refusal) = valueOf refusal
+
+-- the answer of a report or a parse: number 0 with the entries and the moves, or a refusal with its value (and no second value)
+abbrev pub reportNumber : ReportAnswer → ℕ
+reportNumber (report.Report entries moves) = 0
+reportNumber (report.Refused refusal) = numberOf refusal
+
+abbrev pub reportValue : ReportAnswer → ℕ
+reportValue (report.Report entries moves) = entries
+reportValue (report.Refused refusal) = valueOf refusal
+
+abbrev pub reportMoves : ReportAnswer → ℕ
+reportMoves (report.Report entries moves) = moves
+reportMoves (report.Refused refusal) = 0
 
 -- the one list of the table's numbers
 abbrev pub listed : List ℕ

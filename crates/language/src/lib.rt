@@ -40,6 +40,18 @@ pub enum SetAnswer {
     Refused(Refusal),
 }
 
+// The answer of a run: how many moves it made.
+pub enum RunAnswer {
+    Moves(u32),
+    Refused(Refusal),
+}
+
+// The answer of a report, and of the one-call parse: how many entries, and the moves since start.
+pub enum ReportAnswer {
+    Report(u32, u32),
+    Refused(Refusal),
+}
+
 // The table's number of a refusal.
 pub fn number(refusal: Refusal) -> u32
     ensures { λ r. ⌜ r ≡ numberOf refusal ⌝ }

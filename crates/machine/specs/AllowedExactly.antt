@@ -16,13 +16,13 @@ use lib.Dec.{eqb}
 use lib.ListN.{length, getD, set, take, drop}
 use lib.Seq.{getD-at, set-at, take-at}
 use borrow.Author.Tests.{eqb-true, eq-eqb}
-use Rattle.language.specs.Symbols.{Symbol, terminal, nonterminal, yields, equal, takes}
+use Rattle.language.specs.Symbols.{Symbol, takes}
 use Rattle.language.specs.Trees.{Reduction}
 use Rattle.language.specs.declared.Refusal.the-variants.{NoChunk, AtRest, NoJoin}
 use Rattle.machine.specs.Entries.{Unread, terminalAt, nonterminalAt, Entry, terminalOn, nonterminalOn, symbol, valueOf, stackSymbols, topTerminal, topIsNonterminal, Handle, handleOf}
-use Rattle.machine.specs.Moves.{Table, Stuck, noRule, Action, replaces, isWhole, move, Moved, by-rule-1-stuck, by-rule-1, by-rule-2, by-rule-3, by-rule-4-yields, by-rule-4-equal, by-rule-4-last, by-rule-4-stuck, by-rule-5, by-rule-5-stuck, by-rule-6, moved}
+use Rattle.machine.specs.Moves.{Table, noRule, Action, isWhole, Moved, by-rule-1-stuck, by-rule-1, by-rule-2, by-rule-3, by-rule-4-yields, by-rule-4-equal, by-rule-4-last, by-rule-4-stuck, by-rule-5, by-rule-5-stuck, by-rule-6, moved}
 use Rattle.machine.specs.Chunks.{Status, running, stuck, Chunk, Turn, rests, makes, restsSo, atRest, done, turn, joined}
-use Rattle.machine.specs.States.{State, Called, refused, became, Next, chunkAt, madeAt, stepBy, step, nextLive, under, joinWith, join}
+use Rattle.machine.specs.States.{State, Called, refused, became, Next, stepBy, step, nextLive, under, joinWith, join}
 use Rattle.machine.specs.Allowed.{TopmostTerminal, on-top, under-nonterminal, NoTerminal, no-symbol, a-nonterminal, TopNonterminal, top-nonterminal, NoMark, empty-stack, over-unmarked, over-nonterminal, HandleAbove, from-nonterminal, from-mark, up-to-unmarked, up-to-nonterminal, Spelled, spelled-nothing, spelled-terminal, spelled-nonterminal, SymbolsOf, of-nothing, of-terminal, of-nonterminal, runs, isStuck, IsAtRest, being-stuck, nothing-to-read, EndAndAxiom, end-and-axiom, ChunkMoves, rule-1-stuck, rule-1, rule-2, rule-3, rule-4-yields, rule-4-equal, rule-4-last, rule-4-stuck, rule-5, rule-5-stuck, rule-6, Joins, AllGone, no-number, one-gone, Live, NextLive, Steps, JoinsAt}
 
 -- what is not true is false

@@ -9,16 +9,13 @@
 -- Main statements: turn-counts, moves-since-start, run-exactly, one-number, run-zero. Laws for a loop that makes a run's moves:
 -- run-moving, moving-after, moving-rests.
 use mathlib.Core.Path.{_≡_, refl, sym, ap, _∙_}
-use mathlib.Core.Bool.{Bool, true, false}
 use mathlib.Core.List.{List}
 use mathlib.Core.Logic.{_↔_, _⊎_, inl, inr}
 use Prim.Native.Nat.{ℕ, zero, suc, _+_, _-_, _≤_, _<_}
 use native.Mathlib.Nat.{zero-add, add-zero, suc-add}
 use native.Mathlib.Omega.{arith}
-use Rattle.language.specs.declared.Refusal.the-variants.{NoChunk, AtRest}
 use Rattle.language.specs.Trees.{Span}
 use Rattle.machine.specs.Moves.{Table}
-use Rattle.machine.specs.Chunks.{Chunk}
 use Rattle.machine.specs.States.{State, Called, refused, became, Ran, ran, step, moving, run, start}
 use Rattle.machine.specs.Allowed.{IsAtRest, Live, Steps}
 use Rattle.machine.specs.AllowedExactly.{live-to, not-at-rest-to, StepView, no-such-chunk, was-at-rest, steps-so, step-view}

@@ -6,7 +6,7 @@
 -- Main statements: step-no-chunk, step-at-rest, step-refuses, the same for run and join, no-join-exactly, unfinished-exactly,
 -- stuck-exactly (17 to 20), report-exactly.
 use mathlib.Core.Path.{_≡_, refl, sym, ap, _∙_}
-use mathlib.Core.Bool.{Bool, true, false, true≢false, false≢true}
+use mathlib.Core.Bool.{Bool, true, false, true≢false}
 use mathlib.Core.List.{List, [], _∷_, _++_}
 use mathlib.Core.Logic.{_↔_, _⊎_, inl, inr}
 use mathlib.Core.Option.{Option, none, some}
@@ -15,15 +15,15 @@ use native.Mathlib.Omega.{arith}
 use lib.Dec.{eqb}
 use lib.ListN.{drop}
 use Rattle.language.specs.declared.Refusal.{Refusal}
-use Rattle.language.specs.declared.Refusal.the-variants.{NoChunk, AtRest, NoJoin, Unfinished, NoRelation, NoRule, NotAxiom, SideBySide}
+use Rattle.language.specs.declared.Refusal.the-variants.{NoChunk, AtRest, NoJoin, Unfinished}
 use Rattle.language.specs.Refusals.{numberOf, valueOf}
 use Rattle.language.specs.Trees.{Span, Reduction}
 use Rattle.language.specs.Reports.{putInOrder}
 use Rattle.machine.specs.Entries.{Unread, terminalAt, nonterminalAt}
 use Rattle.machine.specs.Moves.{Table, Stuck, noRelation, noRule, notAxiom, sideBySide}
-use Rattle.machine.specs.Chunks.{Status, running, stuck, Chunk, restsSo, atRest}
-use Rattle.machine.specs.States.{State, Called, refused, became, Ran, refusedRun, ran, Next, step, moving, run, nextLive, joinWith, join, live, Outcome, refusedRow, reported, placeOf, refusalOf, outcomeOf, outcomeOfLive, outcome}
-use Rattle.machine.specs.Allowed.{IsAtRest, AllGone, no-number, one-gone, Live, NextLive, Steps, JoinsAt}
+use Rattle.machine.specs.Chunks.{Status, running, stuck, Chunk, atRest}
+use Rattle.machine.specs.States.{State, Called, refused, became, Ran, refusedRun, ran, Next, step, moving, run, nextLive, joinWith, join, live, Outcome, refusedRow, reported, placeOf, refusalOf, outcomeOf, outcome}
+use Rattle.machine.specs.Allowed.{IsAtRest, AllGone, no-number, one-gone, Live, NextLive}
 use Rattle.machine.specs.AllowedExactly.{rests-to, rests-from, not-at-rest-to, turn-rests, live-to, live-drop, next-to, none-next, LiveView, is-live, not-live, live-view, StepView, no-such-chunk, was-at-rest, steps-so, step-view, JoinView, no-left, no-right, left-moves, right-moves, joins-so, NextView, is-next, no-next, next-view, join-view}
 
 module _ {Value : Type 0} where
@@ -227,10 +227,10 @@ module _ {Value : Type 0} where
       first (is-next n) = then n (next-view (n .beyond))
       first (no-next g) = none-live g
 
--- exactly one chunk is live, and it is at rest
-pub record OneAtRest (s : State Span) : Type 0 where
-  pub only : OneLive (s .chunks)
-  pub rests : IsAtRest (only .the-one .chunk)
+  -- the row is finished: exactly one chunk is live, and it is at rest
+  pub record Finished (s : State Value) : Type 0 where
+    pub only : OneLive (s .chunks)
+    pub rests : IsAtRest (only .the-one .chunk)
 
 -- "16 UNFINISHED: several chunks live, or the one not at rest"
 pub data StillUnfinished (s : State Span) : Type 0 where
@@ -296,7 +296,7 @@ place-to nothing-unread = refl
 module _ (s : State Span) where
   -- what the outcome is, by how many chunks are live and how the one stands
   pub data OutcomeView (o : Outcome) : Type 0 where
-    unfinished-so : o ≡ refusedRow Unfinished → (OneAtRest s → ⊥) → OutcomeView o
+    unfinished-so : o ≡ refusedRow Unfinished → (Finished s → ⊥) → OutcomeView o
     stuck-so : (why : Stuck) (place : ℕ) → o ≡ refusedRow (refusalOf why place) → StuckSo s why place → OutcomeView o
     reported-so : (report : List (Reduction Span)) (moves : ℕ) → o ≡ reported report moves → ReportedSo s report moves → OutcomeView o
 
@@ -306,13 +306,13 @@ module _ (s : State Span) where
   the-same : (o o′ : OneLive (s .chunks)) → o .the-one .chunk ≡ o′ .the-one .chunk
   the-same o o′ = let p = live-one o in let q = live-one o′ in cc
 
-  several-unfinished : SeveralLive (s .chunks) → OneAtRest s → ⊥
+  several-unfinished : SeveralLive (s .chunks) → Finished s → ⊥
   several-unfinished m f = let p = live-one (f .only) in let q = live-several m in let z : _≡_ {A = ℕ} 0 1 = cc in omega arith
 
-  none-unfinished : AllGone (s .chunks) → OneAtRest s → ⊥
+  none-unfinished : AllGone (s .chunks) → Finished s → ⊥
   none-unfinished g f = let p = live-one (f .only) in let q = live-gone g in let z : _≡_ {A = ℕ} 0 1 = cc in omega arith
 
-  moves-unfinished : (o : OneLive (s .chunks)) → (IsAtRest (o .the-one .chunk) → ⊥) → OneAtRest s → ⊥
+  moves-unfinished : (o : OneLive (s .chunks)) → (IsAtRest (o .the-one .chunk) → ⊥) → Finished s → ⊥
   moves-unfinished o h f = h (rw (the-same (f .only) o) at (f .rests))
 
   pub outcome-view : OutcomeView (outcome s)
@@ -332,22 +332,22 @@ module _ (s : State Span) where
       counted (one-live o) = one o (o .the-one .chunk .status) (o .the-one .chunk .unread) refl refl
       counted (several-live m) = unfinished-so (rw (live-several m)) (several-unfinished m)
 
-  stuck-finished : {why : Stuck} {place : ℕ} → StuckSo s why place → OneAtRest s
+  stuck-finished : {why : Stuck} {place : ℕ} → StuckSo s why place → Finished s
   stuck-finished h = record { only = h .only; rests = rests-from (h .only .the-one .chunk) (rw (h .stuck-with)) }
 
-  reported-finished : {report : List (Reduction Span)} {moves : ℕ} → ReportedSo s report moves → OneAtRest s
+  reported-finished : {report : List (Reduction Span)} {moves : ℕ} → ReportedSo s report moves → Finished s
   reported-finished h = record { only = h .only; rests = rests-from (h .only .the-one .chunk) (rw (h .not-stuck, h .all-read)) }
 
   -- 16 is given exactly when the row is not finished
-  pub unfinished-exactly : (outcome s ≡ refusedRow Unfinished) ↔ (OneAtRest s → ⊥)
+  pub unfinished-exactly : (outcome s ≡ refusedRow Unfinished) ↔ (Finished s → ⊥)
   unfinished-exactly = ((λ q. to q outcome-view), λ h. from h outcome-view)
     where
-      to : {o : Outcome} → o ≡ refusedRow Unfinished → OutcomeView o → OneAtRest s → ⊥
+      to : {o : Outcome} → o ≡ refusedRow Unfinished → OutcomeView o → Finished s → ⊥
       to q (unfinished-so e h) = h
       to q (stuck-so why place e h) = let z : refusalOf why place ≡ Unfinished = cc in absurd (stuck-not-16 why place (ap numberOf z))
       to q (reported-so report moves e h) = let z : _≡_ {A = ℕ} 0 1 = cc in absurd (omega arith)
 
-      from : {o : Outcome} → (OneAtRest s → ⊥) → OutcomeView o → o ≡ refusedRow Unfinished
+      from : {o : Outcome} → (Finished s → ⊥) → OutcomeView o → o ≡ refusedRow Unfinished
       from h (unfinished-so e g) = e
       from h (stuck-so why place e g) = absurd (h (stuck-finished g))
       from h (reported-so report moves e g) = absurd (h (reported-finished g))
@@ -356,16 +356,17 @@ module _ (s : State Span) where
   pub unfinished-sentence : NextLive (s .chunks) → (outcome s ≡ refusedRow Unfinished) ↔ StillUnfinished s
   unfinished-sentence n = ((λ q. to (unfinished-exactly .0 q) (how-many (s .chunks))), λ h. unfinished-exactly .1 (from h))
     where
-      to : (OneAtRest s → ⊥) → HowMany (s .chunks) → StillUnfinished s
+      to : (Finished s → ⊥) → HowMany (s .chunks) → StillUnfinished s
       to h (none-live g) = let p = live-next n in let q = live-gone g in let z : _≡_ {A = ℕ} 0 1 = cc in absurd (omega arith)
       to h (one-live o) = one-not-at-rest o (λ r. h (record { only = o; rests = r }))
       to h (several-live m) = several m
 
-      from : StillUnfinished s → OneAtRest s → ⊥
+      from : StillUnfinished s → Finished s → ⊥
       from (several m) = several-unfinished m
       from (one-not-at-rest o h) = moves-unfinished o h
 
-  -- 17 to 20 are given exactly when the finished row is stuck so, and the value is the place of its unread symbol
+  -- 17 to 20 are given exactly when the finished row is stuck so, and the value is the place of its unread symbol (refusalOf noRelation
+  -- place is NoRelation place, and so on)
   pub stuck-exactly : (why : Stuck) (place : ℕ) → (outcome s ≡ refusedRow (refusalOf why place)) ↔ StuckSo s why place
   stuck-exactly why place = ((λ q. to q outcome-view), λ h. only-one (h .only) ∙ rw (h .stuck-with, place-to (h .place-is)))
     where

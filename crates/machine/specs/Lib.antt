@@ -2,6 +2,7 @@ pub mod AcceptedK
 pub mod AddsItsOwn
 pub mod Allowed
 pub mod AllowedExactly
+pub mod Answers
 pub mod Bounded
 pub mod Chunks
 pub mod Complete

@@ -7,26 +7,24 @@
 -- Rests on Allowed and AllowedExactly, on Schedules, LaterChunks' `continuation` and Starts, and on GivenExactly for 20.
 --
 -- Main definitions: rowSymbols, Neighbours, RowChange. Main statements: never-neighbours, never-20.
-use mathlib.Core.Path.{_≡_, refl, sym, ap, _∙_}
+use mathlib.Core.Path.{_≡_, refl, sym}
 use mathlib.Core.Bool.{Bool, true, false}
-use mathlib.Core.List.{List, [], _∷_, _++_, append-assoc, append-nil, map}
-use mathlib.Core.Option.{none, some}
+use mathlib.Core.List.{List, [], _∷_, _++_, append-assoc, map}
 use Prim.Native.Nat.{ℕ, suc}
 use native.Mathlib.Omega.{arith}
-use lib.Dec.{eqb}
 use borrow.Author.Tests.{eqb-false}
 use Rattle.language.specs.declared.Refusal.the-variants.{SideBySide}
 use Rattle.language.specs.Trees.{Span, Reduction}
 use Rattle.machine.specs.Entries.{Unread, terminalAt, nonterminalAt, Entry, terminalOn, nonterminalOn, stackSymbols}
 use Rattle.machine.specs.Moves.{Table, Stuck, noRelation, noRule, notAxiom, sideBySide}
-use Rattle.machine.specs.Chunks.{Status, running, stuck, Chunk, joined}
+use Rattle.machine.specs.Chunks.{running, stuck, Chunk}
 use Rattle.machine.specs.States.{State, live, unreadFrom, start, refusedRow, outcome}
 use Rattle.machine.specs.Allowed.{TopmostTerminal, on-top, under-nonterminal, TopNonterminal, top-nonterminal, HandleAbove, from-nonterminal, from-mark, up-to-unmarked, up-to-nonterminal, runs, isStuck, end-and-axiom, ChunkMoves, rule-1-stuck, rule-1, rule-2, rule-3, rule-4-yields, rule-4-equal, rule-4-last, rule-4-stuck, rule-5, rule-5-stuck, rule-6}
 use Rattle.machine.specs.AllowedExactly.{turn-exactly}
 use Rattle.machine.specs.GivenExactly.{stuck-exactly, live-one}
 use Rattle.machine.specs.Schedules.{Schedule, Made, has-read, has-replaced, got-stuck, Changed, moves-one, joins-two, further, Changes, no-change, one-change, schedule-listed}
 use Rattle.machine.specs.LaterChunks.{continuation}
-use Rattle.machine.specs.Starts.{NoEnd, together, firstChunk, laterChunk, begun}
+use Rattle.machine.specs.Starts.{NoEnd, together, laterChunk, begun}
 
 running-not-stuck : running ≡ stuck sideBySide → ⊥
 running-not-stuck q = let z : _≡_ {A = ℕ} 0 1 = cc in omega arith

@@ -5,18 +5,18 @@
 --
 -- Main definitions: tableOfK, uncut, cutInTwo. Main statements: one equation a row.
 use mathlib.Core.Path.{_≡_, refl}
-use mathlib.Core.Bool.{Bool, true, false}
+use mathlib.Core.Bool.{true, false}
 use mathlib.Core.List.{List, [], _∷_, map}
 use mathlib.Core.Option.{Option, none, some}
 use Prim.Native.Nat.{ℕ, suc}
 use lib.Dec.{ltb}
 use lib.ListN.{getD}
-use Rattle.language.specs.declared.Refusal.the-variants.{NoRelation, NoRule, NotAxiom}
+use Rattle.language.specs.declared.Refusal.the-variants.{NoRelation, NoRule, NotAxiom, SideBySide}
 use Rattle.language.specs.Symbols.{Symbol, terminal, nonterminal, sameString, Relation, blank, yields, equal, takes}
 use Rattle.language.specs.Trees.{Span, Reduction}
-use Rattle.machine.specs.Moves.{Table, Stuck, noRelation, noRule}
-use Rattle.machine.specs.Chunks.{Status, running, stuck, Chunk}
-use Rattle.machine.specs.States.{State, refused, became, refusedRun, ran, run, join, live, start, Outcome, refusedRow, reported, placeOf, outcome}
+use Rattle.machine.specs.Moves.{Table, noRelation, noRule}
+use Rattle.machine.specs.Chunks.{Status, stuck}
+use Rattle.machine.specs.States.{State, refused, became, refusedRun, ran, run, join, live, start, refusedRow, reported, placeOf, outcome}
 use Rattle.machine.specs.Spans.{spanOf}
 
 -- a rule: its left side and its right side
@@ -132,3 +132,7 @@ uncut-row = refl
 cut-row-as-made : cutInTwo tableOfK 4 (1 ∷ 2 ∷ 3 ∷ 1 ∷ 2 ∷ 1 ∷ 4 ∷ 5 ∷ []) .reductions
     ≡ entry 0 0 1 ∷ entry 0 5 6 ∷ entry 0 3 4 ∷ entry 3 3 6 ∷ entry 2 2 8 ∷ entry 3 0 8 ∷ []
 cut-row-as-made = refl
+
+-- why NeverSideBySide asks that no token is #: with one, which a start refuses with 9, two nonterminals can meet
+end-inside : outcome (cutInTwo tableOfK 1 (1 ∷ 0 ∷ 1 ∷ [])) ≡ refusedRow (SideBySide 2)
+end-inside = refl
