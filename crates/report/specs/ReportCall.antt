@@ -1,0 +1,48 @@
+-- The report call, and the tokens of one report entry.
+-- Document 01: "the report 15, 16, 17 to 20, 11"; "a report writes just these reductions, put in order, and gives this count, and parses
+-- nothing anew"; "A viewer may ask for the tokens of one report entry: the answer is that part of the caller's own token run. If the
+-- entry isn't wholly in the report run, its second word exceeds its third, or its third exceeds the token count, the answer is the
+-- part of no tokens at place 0."
+-- Rests on area's Layout and Shape, and on machine's States and Answers.
+--
+-- Main definitions: reportAnswer, reportOut; entryStands, entryStart, entryTokens.
+use mathlib.Core.Bool.{Bool, true, false, _&&_}
+use mathlib.Core.List.{List, []}
+use Prim.Native.Nat.{ℕ, _+_, _*_}
+use lib.Dec.{leb}
+use lib.ListN.{length, getD}
+use lib.Seq.{slice}
+use Rattle.language.specs.declared.Refusal.the-variants.{BadState}
+use Rattle.language.specs.declared.ReportAnswer.{ReportAnswer}
+use Rattle.machine.specs.States.{Outcome, refusedRow, outcome}
+use Rattle.machine.specs.Answers.{outcomeAnswer, outcomeOut}
+use Rattle.area.specs.Layout.{decode}
+use Rattle.area.specs.Shape.{inShape}
+
+-- ---- report
+
+-- 15, or what the state that the words stand for gives
+unfoldable pub reportOutcome : List ℕ → List ℕ → List ℕ → Outcome
+reportOutcome words matrix area = elim (inShape words matrix area) [ false ↦ refusedRow BadState | true ↦ outcome (decode area) ]
+
+unfoldable pub reportAnswer : List ℕ → List ℕ → List ℕ → ℕ → ReportAnswer
+reportAnswer words matrix area room = outcomeAnswer (reportOutcome words matrix area) room
+
+unfoldable pub reportOut : List ℕ → List ℕ → List ℕ → List ℕ → List ℕ
+reportOut words matrix area out = outcomeOut (reportOutcome words matrix area) out
+
+-- ---- the tokens of an entry
+
+-- entry e is wholly in the report run, its second word is at most its third, and its third at most the token count
+abbrev pub entryStands : List ℕ → ℕ → ℕ → Bool
+entryStands report e count =
+    leb (3 * e + 3) (length report) && (leb (getD report (3 * e + 1) 0) (getD report (3 * e + 2) 0) && leb (getD report (3 * e + 2) 0) count)
+
+-- where the part starts in the token run
+unfoldable pub entryStart : List ℕ → ℕ → ℕ → ℕ
+entryStart report e count = elim (entryStands report e count) [ true ↦ getD report (3 * e + 1) 0 | false ↦ 0 ]
+
+-- the part's tokens
+unfoldable pub entryTokens : List ℕ → ℕ → List ℕ → List ℕ
+entryTokens report e tokens =
+    elim (entryStands report e (length tokens)) [ true ↦ slice (getD report (3 * e + 1) 0) (getD report (3 * e + 2) 0) tokens | false ↦ [] ]
