@@ -5,10 +5,10 @@
 --
 -- Main statements: length-block, length-stack, length-unread, length-row, length-rows, length-slots, length-report, rows-append,
 -- slots-append, total-append, tiles-end, total-is, within-slots, encode-length.
-use mathlib.Core.Path.{_≡_, refl, sym, _∙_}
+use mathlib.Core.Path.{_≡_, refl}
 use mathlib.Core.List.{List, [], _∷_, _++_, append-assoc}
 use mathlib.Core.Option.{Option, none, some}
-use Prim.Native.Nat.{ℕ, zero, suc, _+_, _*_, _-_, _≤_, _<_}
+use Prim.Native.Nat.{ℕ, zero, suc, _+_, _*_, _-_, _≤_}
 use native.Mathlib.Nat.{add-zero}
 use native.Mathlib.Omega.{arith}
 use lib.ListN.{length, replicate, length-append, length-replicate}
@@ -18,7 +18,7 @@ use Rattle.language.specs.Reports.{reportWords}
 use Rattle.machine.specs.Entries.{Unread, terminalAt, nonterminalAt, Entry, symbol, unmarked, stackSymbols}
 use Rattle.machine.specs.Chunks.{Chunk}
 use Rattle.machine.specs.States.{State, live}
-use Rattle.area.specs.Layout.{need, more, size, block, markWord, stackSize, stackWords, unreadSize, unreadWords, chunkSize, chunkWords, row, total, rows, slots, zeros, tailWords, encode}
+use Rattle.area.specs.Layout.{need, more, size, block, markWord, stackSize, stackWords, unreadSize, unreadWords, chunkSize, chunkWords, row, total, rows, slots, encode}
 use Rattle.area.specs.Kept.{Lies, first-end, last-end, within, Tiles, tiled, tile, symbolsOf, Kept}
 
 -- ---- a chunk's words

@@ -1,6 +1,7 @@
 pub mod Least
 pub mod Masks
 pub mod Parts
+pub mod Passed
 pub mod Picks
 pub mod Rests
 pub mod Sorting
