@@ -1,5 +1,6 @@
 pub mod Blocks
 pub mod Chunkwise
+pub mod Decode
 pub mod Encoded
 pub mod EndMarkOfShape
 pub mod Kept

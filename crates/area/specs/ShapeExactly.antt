@@ -3,9 +3,10 @@
 -- broken and never otherwise".
 -- Rests on Rules and WalksRead.
 --
--- Main definitions: Stated. Main statements: shape-complete, shape-state.
+-- Main definitions: HoldsState, Stated. Main statements: shape-complete, shape-state, shape-exactly.
 use mathlib.Core.Path.{_≡_, refl, sym, ap, ap₂, _∙_}
 use mathlib.Core.Bool.{true, false}
+use mathlib.Core.Logic.{_↔_}
 use mathlib.Core.List.{List, [], _∷_, _++_}
 use mathlib.Core.Option.{Option}
 use Prim.Native.Nat.{ℕ, zero, suc, _+_, _*_, _-_, _/_, _%_, _≤_, _<_}
@@ -115,12 +116,15 @@ front-is (a ∷ b ∷ c ∷ d ∷ e ∷ words) h l =
     let q : (c + 65536 * d) / 65536 ≡ d = omega arith in
     rw (p, q)
 
--- the state of an area, and that it keeps the rules; only the first words are its own, the rest may be any
+-- an area holds this state, which keeps the rules; only its first words are the state's, the rest may be any
+pub record HoldsState (t N : ℕ) (words : List ℕ) (s : State Span) : Type 0 where
+  pub chunks-are : length (s .chunks) ≡ getD words 1 0
+  pub is : words ≡ encode (getD words 0 0) s ++ drop (need (getD words 0 0) (getD words 1 0)) words
+  pub kept : Kept t N (getD words 0 0) s
+
 pub record Stated (t N : ℕ) (words : List ℕ) : Type 0 where
   pub state : State Span
-  pub chunks-are : length (state .chunks) ≡ getD words 1 0
-  pub is : words ≡ encode (getD words 0 0) state ++ drop (need (getD words 0 0) (getD words 1 0)) words
-  pub kept : Kept t N (getD words 0 0) state
+  pub holds-state : HoldsState t N words state
 
 -- the parts of an area, one after the other
 module _ (words : List ℕ) (chunks : List (Option (Chunk Span))) (made : List (Reduction Span)) where
@@ -258,7 +262,18 @@ shape-state t N words few low h =
     let is = words-of t N words i k (m .made) (m .count-is) low (omega (arith, m .count-is)) (m .words-are) (r .1 .1 .1 .1 .1 .0) in
     record {
       state = stateOf words (k .chunks) (m .made);
-      chunks-are = k .count-is;
-      is = is;
-      kept = kept-of t N words i k (m .made) (m .count-is) is (r .1 .0) (r .1 .1 .0) (r .1 .1 .1 .0) (r .1 .1 .1 .1 .0);
+      holds-state = record {
+        chunks-are = k .count-is;
+        is = is;
+        kept = kept-of t N words i k (m .made) (m .count-is) is (r .1 .0) (r .1 .1 .0) (r .1 .1 .1 .0) (r .1 .1 .1 .1 .0);
+      };
     }
+
+-- in shape exactly when the words are those of a state that keeps the rules
+pub shape-exactly : (t N : ℕ) (words : List ℕ) → t < 256 → getD words 2 0 < 65536 → (areaInShape t N words ≡ true) ↔ Stated t N words
+shape-exactly t N words few low = (shape-state t N words few low, back)
+  where
+    back : Stated t N words → areaInShape t N words ≡ true
+    back r =
+        let k = r .holds-state in
+        ap (areaInShape t N) (k .is) ∙ shape-complete few (k .kept) (drop (need (getD words 0 0) (getD words 1 0)) words)

@@ -7,3 +7,4 @@ pub mod Rests
 pub mod Sorting
 pub mod Tabulate
 pub mod Tests
+pub mod UpTo

@@ -1,0 +1,33 @@
+-- `body_end` gives `bodyEnd`.
+use mathlib.Core.Path.{sym, ap, _∙_}
+use native.Mathlib.Numerals.{add-one}
+use native.Mathlib.Omega.{arith}
+use borrow.Author.Needs.{needs}
+use Rattle.language.specs.Words.{entry}
+use Rattle.table.specs.Laid.{ends-next, ends-last}
+use Rattle.table.proofs.words.body_end.Statement.{statement}
+use Rattle.table.proofs.words.body_end.Tie as tie
+
+add-if1 : tie.Need-add-if1
+add-if1 c = search needs
+
+word-requires : tie.Need-word-requires
+word-requires c κs = search needs
+
+add-entry : tie.Need-add-entry
+add-entry c = search needs
+
+entry-requires : tie.Need-entry-requires
+entry-requires c κs = search needs
+
+returns : tie.Need-returns
+returns c =
+    let s = c .before .before .before .before in
+    c .entry .ensures .0 ∙ ap (entry (s .args .words .now)) (add-one (s .args .r)) ∙ sym (ends-next (s .args .words .now) (s .args .r) (omega arith))
+
+returns-2 : tie.Need-returns-2
+returns-2 c = let s = c .before .before .before in sym (ends-last (s .args .words .now) (s .args .r) (omega arith))
+
+pub body-end-spec : {M : Type 1} → statement M
+body-end-spec =
+    tie.close (tie.spec add-if1 word-requires add-entry entry-requires returns returns-2)

@@ -1,0 +1,37 @@
+-- `wrong_in` is the test `wrongIn`, at a place that lies in the body.
+use native.Mathlib.Omega.{arith}
+use borrow.Author.Needs.{needs}
+use Rattle.table.specs.Laid.{within}
+use Rattle.table.specs.Places.{wrong-left, wrong-right}
+use Rattle.table.proofs.words.wrong_in.Statement.{statement}
+use Rattle.table.proofs.words.wrong_in.Tie as tie
+
+word-requires : tie.Need-word-requires
+word-requires c κs =
+    let s = c .before in
+    omega (arith, within (s .args .words .now) (s .pre .0) (s .args .r) (s .pre .1 .rule))
+
+entry-requires : tie.Need-entry-requires
+entry-requires c κs = search needs
+
+word-requires-2 : tie.Need-word-requires-2
+word-requires-2 c κs = search needs
+
+returns : tie.Need-returns
+returns c =
+    let s = c .before .before .before .before .before in
+    rw (wrong-left (s .args .words .now) (s .args .p) (s .args .r) (omega arith), c .word2 .ensures .0, c .before .before .before .word .ensures .0)
+
+no-symbol-requires : tie.Need-no-symbol-requires
+no-symbol-requires c κs = search needs
+
+returns-2 : tie.Need-returns-2
+returns-2 c =
+    let s = c .before .before .before .before .before in
+    rw (wrong-right (s .args .words .now) (s .args .p) (s .args .r) (omega arith) (s .pre .1 .ends))
+    (rw (c .before .before .before .word .ensures .0) at (c .no-symbol .ensures))
+
+pub wrong-in-spec : {M : Type 1} → statement M
+wrong-in-spec =
+    tie.close
+    (tie.spec word-requires entry-requires word-requires-2 returns no-symbol-requires returns-2)

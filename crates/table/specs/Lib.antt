@@ -1,0 +1,7 @@
+pub mod Answered
+pub mod Forms
+pub mod Laid
+pub mod Places
+pub mod Rules
+pub mod Search
+pub mod Twins
