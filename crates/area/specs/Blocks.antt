@@ -1,13 +1,14 @@
 -- Rule (f) for one symbol: the tests of the words of a block pass exactly for the blocks of symbols that stand on their slots as the
 -- rules of a state ask; and what the scan makes of such a block.
 -- Document 01, 15 BAD STATE; docs/AREA.md, rule (f).
+-- t, N: how many terminals and nonterminals the grammar has; n: how many tokens the row has.
 -- Rests on Layout, Kept and Shape.
 --
 -- Main definitions: lastSlots (a block's words after its first slot), Stands, passedOver.
 -- Main statements: block-slots, stands-to-tests, tests-to-stands, scan-block (every such block is passed), slot-view (which slots a
 -- scan lets pass).
 use mathlib.Core.Path.{_≡_, refl, sym, ap, _∙_}
-use mathlib.Core.Bool.{Bool, true, false, false≢true}
+use mathlib.Core.Bool.{Bool, true, false}
 use mathlib.Core.Logic.{_⊎_, inl, inr}
 use mathlib.Core.List.{List, [], _∷_, _++_}
 use Prim.Native.Nat.{ℕ, zero, suc, _+_, _*_, _-_, _≤_, _<_}
@@ -17,10 +18,10 @@ use lib.Dec.{leb, ltb, eqb}
 use lib.ListN.{replicate}
 use Rattle.laws.specs.Tests.{eqb-true, eqb-false, ltb-true, ltb-false, leb-true, eq-eqb, ne-eqb, lt-ltb, le-ltb, le-leb, lt-leb}
 use Rattle.laws.specs.Picks.{pick}
-use Rattle.laws.specs.Passed.{must-pass, must-fail}
+use Rattle.laws.specs.Passed.{must-pass, must-fail, both, unless}
 use Rattle.language.specs.Symbols.{Symbol, terminal, nonterminal, wordOf}
 use Rattle.language.specs.Trees.{Span}
-use Rattle.machine.specs.Entries.{Unread, Entry, terminalOn, nonterminalOn, symbol, unmarked}
+use Rattle.machine.specs.Entries.{Unread, terminalAt, Entry, terminalOn, nonterminalOn, symbol, unmarked}
 use Rattle.machine.specs.RunsEnd.{MarksFine, fine-empty, fine-nonterminal, fine-unmarked, fine-marked}
 use Rattle.area.specs.declared.shape.Scan.{Scan}
 use Rattle.area.specs.Layout.{more, size, block, markWord, spanAt, unreadOf}
@@ -106,40 +107,38 @@ some-terminal zero m i h e = absurd (i refl)
 some-terminal (suc a) m i h e = is-terminal a true refl h (sym e)
 
 symbol-view : (t N s m : ℕ) → symbolFits t N s m ≡ true → SymbolView t N s m
-symbol-view t N s m = go (eqb m 0) (leb s t) (ltb s 256) (ltb s (256 + N)) (eqb m 1) (eqb s 0) refl refl refl refl refl refl
+symbol-view t N s m = go (eqb m 0) refl
   where
-    go : (b₁ b₂ b₃ b₄ b₅ b₆ : Bool) → eqb m 0 ≡ b₁ → leb s t ≡ b₂ → ltb s 256 ≡ b₃ → ltb s (256 + N) ≡ b₄ → eqb m 1 ≡ b₅ → eqb s 0 ≡ b₆
-        → pick b₁ (pick b₂ true (pick b₃ false b₄)) (pick b₅ (pick b₆ false b₂) false) ≡ true → SymbolView t N s m
-    go true true b₃ b₄ b₅ b₆ q₁ q₂ q₃ q₄ q₅ q₆ h = end-or-terminal s m (leb-true s t q₂) (eqb-true m 0 q₁)
-    go true false true b₄ b₅ b₆ q₁ q₂ q₃ q₄ q₅ q₆ h = absurd (false≢true h)
-    go true false false true b₅ b₆ q₁ q₂ q₃ q₄ q₅ q₆ h =
-        let over : 256 ≤ s = ltb-false s 256 q₃ in
-        let below : s < 256 + N = ltb-true s (256 + N) q₄ in
-        is-nonterminal (s - 256) (omega arith) (omega arith) (eqb-true m 0 q₁)
-    go true false false false b₅ b₆ q₁ q₂ q₃ q₄ q₅ q₆ h = absurd (false≢true h)
-    go false true b₃ b₄ true false q₁ q₂ q₃ q₄ q₅ q₆ h = some-terminal s m (eqb-false s 0 q₆) (leb-true s t q₂) (eqb-true m 1 q₅)
-    go false true b₃ b₄ true true q₁ q₂ q₃ q₄ q₅ q₆ h = absurd (false≢true h)
-    go false true b₃ b₄ false b₆ q₁ q₂ q₃ q₄ q₅ q₆ h = absurd (false≢true h)
-    go false false b₃ b₄ true true q₁ q₂ q₃ q₄ q₅ q₆ h = absurd (false≢true h)
-    go false false b₃ b₄ true false q₁ q₂ q₃ q₄ q₅ q₆ h = absurd (false≢true h)
-    go false false b₃ b₄ false b₆ q₁ q₂ q₃ q₄ q₅ q₆ h = absurd (false≢true h)
+    unmarked-view : (b : Bool) → leb s t ≡ b → m ≡ 0 → pick b true (pick (ltb s 256) false (ltb s (256 + N))) ≡ true → SymbolView t N s m
+    unmarked-view true q e h = end-or-terminal s m (leb-true s t q) e
+    unmarked-view false q e h =
+        let p = unless (ltb s 256) (ltb s (256 + N)) h in
+        let over : 256 ≤ s = ltb-false s 256 (p .passes) in
+        let below : s < 256 + N = ltb-true s (256 + N) (p .good) in
+        is-nonterminal (s - 256) (omega arith) (omega arith) e
+
+    go : (b : Bool) → eqb m 0 ≡ b
+        → pick b (pick (leb s t) true (pick (ltb s 256) false (ltb s (256 + N)))) (pick (eqb m 1) (pick (eqb s 0) false (leb s t)) false) ≡ true → SymbolView t N s m
+    go true q h = unmarked-view (leb s t) refl (eqb-true m 0 q) h
+    go false q h =
+        let p = both (eqb m 1) (pick (eqb s 0) false (leb s t)) h in
+        let r = unless (eqb s 0) (leb s t) (p .good) in
+        some-terminal s m (eqb-false s 0 (r .passes)) (leb-true s t (r .good)) (eqb-true m 1 (p .passes))
 
 place-view : (n slot s l : ℕ) → placeFits n slot s l ≡ true → PlaceView n slot s l
-place-view n slot s l = go (eqb slot 0) (eqb slot (n + 1)) (eqb s 0) (eqb l 1) (leb (slot + l) (n + 1)) refl refl refl refl refl
+place-view n slot s l = go (eqb slot 0) (eqb slot (n + 1)) refl refl
   where
-    go : (b₁ b₂ b₃ b₄ b₅ : Bool) → eqb slot 0 ≡ b₁ → eqb slot (n + 1) ≡ b₂ → eqb s 0 ≡ b₃ → eqb l 1 ≡ b₄ → leb (slot + l) (n + 1) ≡ b₅
-        → pick b₁ (pick b₃ b₄ false) (pick b₂ (pick b₃ b₄ false) (pick b₃ false b₅)) ≡ true → PlaceView n slot s l
-    go true b₂ true true b₅ q₁ q₂ q₃ q₄ q₅ h = at-end (inl (eqb-true slot 0 q₁)) (eqb-true s 0 q₃) (eqb-true l 1 q₄)
-    go true b₂ true false b₅ q₁ q₂ q₃ q₄ q₅ h = absurd (false≢true h)
-    go true b₂ false b₄ b₅ q₁ q₂ q₃ q₄ q₅ h = absurd (false≢true h)
-    go false true true true b₅ q₁ q₂ q₃ q₄ q₅ h = at-end (inr (eqb-true slot (n + 1) q₂)) (eqb-true s 0 q₃) (eqb-true l 1 q₄)
-    go false true true false b₅ q₁ q₂ q₃ q₄ q₅ h = absurd (false≢true h)
-    go false true false b₄ b₅ q₁ q₂ q₃ q₄ q₅ h = absurd (false≢true h)
-    go false false false b₄ true q₁ q₂ q₃ q₄ q₅ h =
-        let some : slot ≡ 0 → ⊥ = eqb-false slot 0 q₁ in
-        inside (omega arith) (leb-true (slot + l) (n + 1) q₅) (eqb-false s 0 q₃)
-    go false false false b₄ false q₁ q₂ q₃ q₄ q₅ h = absurd (false≢true h)
-    go false false true b₄ b₅ q₁ q₂ q₃ q₄ q₅ h = absurd (false≢true h)
+    end : (slot ≡ 0) ⊎ (slot ≡ n + 1) → pick (eqb s 0) (eqb l 1) false ≡ true → PlaceView n slot s l
+    end at h = let p = both (eqb s 0) (eqb l 1) h in at-end at (eqb-true s 0 (p .passes)) (eqb-true l 1 (p .good))
+
+    go : (b c : Bool) → eqb slot 0 ≡ b → eqb slot (n + 1) ≡ c
+        → pick b (pick (eqb s 0) (eqb l 1) false) (pick c (pick (eqb s 0) (eqb l 1) false) (pick (eqb s 0) false (leb (slot + l) (n + 1)))) ≡ true → PlaceView n slot s l
+    go true c q r h = end (inl (eqb-true slot 0 q)) h
+    go false true q r h = end (inr (eqb-true slot (n + 1) r)) h
+    go false false q r h =
+        let p = unless (eqb s 0) (leb (slot + l) (n + 1)) h in
+        let some : slot ≡ 0 → ⊥ = eqb-false slot 0 q in
+        inside (omega arith) (leb-true (slot + l) (n + 1) (p .good)) (eqb-false s 0 (p .passes))
 
 -- words s, m and l of a slot are those of an entry that stands there
 pub record Opening (t N n slot s m l : ℕ) : Type 0 where
@@ -171,21 +170,41 @@ mark-number : (mark : Bool) (a : ℕ) (v : Span) → markWord (terminalOn mark a
 mark-number true a v = refl
 mark-number false a v = refl
 
+end-lies : {n slot : ℕ} → (slot ≡ 0) ⊎ (slot ≡ n + 1) → Lies n slot (terminalAt 0 (spanAt (terminal 0) slot 1))
+end-lies (inl q) = first-end q refl refl
+end-lies (inr q) = last-end q refl refl
+
 opening : {t N n slot s m l : ℕ} → 0 < l → SymbolView t N s m → PlaceView n slot s l → Opening t N n slot s m l
-opening {slot = slot} i (is-end e z) (at-end (inl q) e′ o) =
-    record { entry = terminalOn false 0 (spanAt (terminal 0) slot 1); word-is = sym e; mark-is = sym z; size-is = sym o; stands = record { lies = first-end q refl refl; ranged = omega arith; fine = fine-unmarked fine-empty } }
-opening {slot = slot} i (is-end e z) (at-end (inr q) e′ o) =
-    record { entry = terminalOn false 0 (spanAt (terminal 0) slot 1); word-is = sym e; mark-is = sym z; size-is = sym o; stands = record { lies = last-end q refl refl; ranged = omega arith; fine = fine-unmarked fine-empty } }
+opening {slot = slot} i (is-end e z) (at-end at e′ o) =
+    record {
+      entry = terminalOn false 0 (spanAt (terminal 0) slot 1);
+      word-is = sym e;
+      mark-is = sym z;
+      size-is = sym o;
+      stands = record { lies = end-lies at; ranged = omega arith; fine = fine-unmarked fine-empty };
+    }
 opening i (is-end e z) (inside p h f) = absurd (f e)
-opening i (is-terminal a mark e h m) (at-end q e′ o) = absurd (omega arith)
+opening i (is-terminal a mark e h m) (at-end at e′ o) = absurd (omega arith)
 opening {n = n} {slot = slot} {l = l} i (is-terminal a mark e h m) (inside p q f) =
     let v : Span = spanAt (terminal (suc a)) slot l in
     let r = inside-lies n slot l (terminal (suc a)) p i q (λ z. f (e ∙ ap wordOf z)) in
-    record { entry = terminalOn mark (suc a) v; word-is = sym e; mark-is = mark-number mark (suc a) v ∙ m; size-is = r .size-is; stands = record { lies = r .lies; ranged = h; fine = mark-fine mark a v } }
-opening i (is-nonterminal k e h m) (at-end q e′ o) = absurd (omega arith)
+    record {
+      entry = terminalOn mark (suc a) v;
+      word-is = sym e;
+      mark-is = mark-number mark (suc a) v ∙ m;
+      size-is = r .size-is;
+      stands = record { lies = r .lies; ranged = h; fine = mark-fine mark a v };
+    }
+opening i (is-nonterminal k e h m) (at-end at e′ o) = absurd (omega arith)
 opening {n = n} {slot = slot} {l = l} i (is-nonterminal k e h m) (inside p q f) =
     let r = inside-lies n slot l (nonterminal k) p i q (λ z. f (e ∙ ap wordOf z)) in
-    record { entry = nonterminalOn k (spanAt (nonterminal k) slot l); word-is = sym e; mark-is = sym m; size-is = r .size-is; stands = record { lies = r .lies; ranged = h; fine = fine-nonterminal fine-empty } }
+    record {
+      entry = nonterminalOn k (spanAt (nonterminal k) slot l);
+      word-is = sym e;
+      mark-is = sym m;
+      size-is = r .size-is;
+      stands = record { lies = r .lies; ranged = h; fine = fine-nonterminal fine-empty };
+    }
 
 pub tests-to-stands : {t N n slot s m l : ℕ} → 0 < l → Tested t N n slot s m l → Opening t N n slot s m l
 tests-to-stands {t} {N} {n} {slot} {s} {m} {l} i q = opening i (symbol-view t N s m (q .symbol-fits)) (place-view n slot s l (q .place-fits))
@@ -213,8 +232,9 @@ module _ (t N n : ℕ) where
   unfolding scanSlot
   scan-first slot st e o i q =
       let k : ℕ = more (unmarked e) in
-      let z : more (unmarked e) + 1 - 1 ≡ more (unmarked e) = omega arith in
-      simp (o, eq-eqb (st .within) 0 i, ne-eqb (more (unmarked e) + 1) 0 (λ h. omega arith), q .symbol-fits, q .place-fits, z, eq-eqb (tag (more (unmarked e)) (more (unmarked e) + 1)) (tag (more (unmarked e)) (more (unmarked e) + 1)) refl)
+      let z : k + 1 - 1 ≡ k = omega arith in
+      let some : eqb (k + 1) 0 ≡ false = ne-eqb (k + 1) 0 (λ h. omega arith) in
+      simp (o, eq-eqb (st .within) 0 i, some, q .symbol-fits, q .place-fits, z, eq-eqb (tag k (k + 1)) (tag k (k + 1)) refl)
 
   scan-inner : (slot k l y x m : ℕ) → scanSlot t N n slot (scanAt (suc k) l y x m) 0 0 0 (tag k l) ≡ scanAt k l y x m
   unfolding scanSlot
@@ -228,7 +248,9 @@ module _ (t N n : ℕ) where
   scan-rest (suc k) count slot l y x m words =
       let a : suc k + count ≡ suc (k + count) = omega arith in
       let b : slot + suc k ≡ slot + 1 + k = omega arith in
-      rw (a, b) (ap (λ st. scanned t N n (k + count) (slot + 1) (lastSlots k l ++ words) st) (scan-inner slot k l y x m) ∙ scan-rest k count (slot + 1) l y x m words)
+      rw (a, b)
+      (ap (λ v. scanned t N n (k + count) (slot + 1) (lastSlots k l ++ words) v) (scan-inner slot k l y x m)
+      ∙ scan-rest k count (slot + 1) l y x m words)
 
   -- a block is passed
   pub scan-block : t < 256 → (count slot : ℕ) (st : Scan) (e : Entry Span) (words : List ℕ) → st .ok ≡ true → st .within ≡ 0 → Stands t N n slot e
@@ -236,11 +258,12 @@ module _ (t N n : ℕ) where
       ≡ scanned t N n count (slot + size (unmarked e)) words (passedOver st e)
   scan-block few count slot st e words o i h =
       let k : ℕ = more (unmarked e) in
-      let a : more (unmarked e) + 1 + count ≡ suc (more (unmarked e) + count) = omega arith in
-      let b : slot + (more (unmarked e) + 1) ≡ slot + 1 + more (unmarked e) = omega arith in
+      let l : ℕ = size (unmarked e) in
+      let a : k + 1 + count ≡ suc (k + count) = omega arith in
+      let b : slot + (k + 1) ≡ slot + 1 + k = omega arith in
       rw (block-slots (markWord e) (unmarked e), a, b)
-      (ap (λ st. scanned t N n (k + count) (slot + 1) (lastSlots k (size (unmarked e)) ++ words) st) (scan-first slot st e o i (stands-to-tests few e h))
-      ∙ scan-rest k count (slot + 1) (size (unmarked e)) (st .symbols + 1) (st .terminals + oneIfTerminal (word e)) (st .marks + markWord e) words)
+      (ap (λ v. scanned t N n (k + count) (slot + 1) (lastSlots k l ++ words) v) (scan-first slot st e o i (stands-to-tests few e h))
+      ∙ scan-rest k count (slot + 1) l (st .symbols + 1) (st .terminals + oneIfTerminal (word e)) (st .marks + markWord e) words)
 
 -- ---- what a scan lets pass
 
@@ -272,7 +295,8 @@ module _ (t N n slot : ℕ) (st : Scan) (s m l b : ℕ) where
       let p₃ = must-pass isOk broken refl (eqb l 0) _ (p₂ .good) in
       let p₄ = must-pass isOk broken refl (eqb b (tag (st .within - 1) (st .size))) _ (p₃ .good) in
       rw (p₁ .is ∙ p₂ .is ∙ p₃ .is ∙ p₄ .is)
-      (goes-on o (omega arith) (eqb-true s 0 (p₁ .passes)) (eqb-true m 0 (p₂ .passes)) (eqb-true l 0 (p₃ .passes)) (eqb-true b (tag (st .within - 1) (st .size)) (p₄ .passes)))
+      (goes-on o (omega arith) (eqb-true s 0 (p₁ .passes)) (eqb-true m 0 (p₂ .passes)) (eqb-true l 0 (p₃ .passes))
+      (eqb-true b (tag (st .within - 1) (st .size)) (p₄ .passes)))
 
   pub slot-view : scanSlot t N n slot st s m l b .ok ≡ true → SlotView t N n slot st s m l b (scanSlot t N n slot st s m l b)
   unfolding scanSlot

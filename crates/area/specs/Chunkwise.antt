@@ -1,7 +1,8 @@
 -- The rules that Kept states of all live symbols together, chunk by chunk: a state keeps them exactly where each of its chunks fits at
 -- its first slot and the last ends as it should.
 -- docs/AREA.md, rules (d) to (h).
--- Rests on Walks and Kept.
+-- t, N: how many terminals and nonterminals the grammar has; n: how many tokens the row has.
+-- Rests on Walks and Tiling.
 --
 -- Main statements: kept-fits (from all together to each chunk); tiles-from, ranged-from, fine-from, stuck-from, last-from (back).
 use mathlib.Core.Path.{_≡_, refl}
@@ -16,38 +17,12 @@ use Rattle.machine.specs.Chunks.{Chunk}
 use Rattle.machine.specs.States.{State, live}
 use Rattle.machine.specs.Bounded.{AllFine, all-fine-nil, all-fine-cons}
 use Rattle.area.specs.Layout.{stackSize, unreadSize, chunkSize, total}
-use Rattle.area.specs.Kept.{Tiles, tiled, tile, AllInRange, none-left, in-range, symbolsOf, LastHolds, holds, later-holds, Ending, whole, accepted, AllStuckFine, no-chunk, and-chunk, Kept}
+use Rattle.area.specs.Kept.{Tiles, tiled, AllInRange, none-left, symbolsOf, LastHolds, holds, later-holds, Ending, whole, accepted, AllStuckFine, no-chunk, and-chunk, Kept}
 use Rattle.area.specs.Lengths.{tiles-end, stack-size, symbols-size, unread-append}
+use Rattle.area.specs.Tiling.{tiles-split, tiles-join, ranged-split, ranged-join}
 use Rattle.area.specs.Sides.{placed-at}
 use Rattle.area.specs.Rising.{rising-stack, plain, plain-unread, fine-reverse, placed-of, tiles-of, ranged-of, fine-of}
 use Rattle.area.specs.Walks.{AllFit, no-more-fit, gone-fits, live-fits}
-
--- ---- symbols side by side, in two parts
-
-record Cut (n s : ℕ) (xs ys : List (Unread Span)) (e : ℕ) : Type 0 where
-  middle : ℕ
-  front : Tiles n s xs middle
-  back : Tiles n middle ys e
-
-tiles-cut : {n s e : ℕ} (xs ys : List (Unread Span)) → Tiles n s (xs ++ ys) e → Cut n s xs ys e
-tiles-cut [] ys p = record { middle = _; front = tiled; back = p }
-tiles-cut (x ∷ xs) ys (tile l p) = let c = tiles-cut xs ys p in record { middle = c .middle; front = tile l (c .front); back = c .back }
-
-tiles-join : {n s m e : ℕ} {xs ys : List (Unread Span)} → Tiles n s xs m → Tiles n m ys e → Tiles n s (xs ++ ys) e
-tiles-join tiled q = q
-tiles-join (tile l p) q = tile l (tiles-join p q)
-
-ranged-front : {t N : ℕ} (xs ys : List (Unread Span)) → AllInRange t N (xs ++ ys) → AllInRange t N xs
-ranged-front [] ys r = none-left
-ranged-front (x ∷ xs) ys (in-range i r) = in-range i (ranged-front xs ys r)
-
-ranged-back : {t N : ℕ} (xs ys : List (Unread Span)) → AllInRange t N (xs ++ ys) → AllInRange t N ys
-ranged-back [] ys r = r
-ranged-back (x ∷ xs) ys (in-range i r) = ranged-back xs ys r
-
-ranged-join : {t N : ℕ} {xs ys : List (Unread Span)} → AllInRange t N xs → AllInRange t N ys → AllInRange t N (xs ++ ys)
-ranged-join none-left q = q
-ranged-join (in-range i r) q = in-range i (ranged-join r q)
 
 -- ---- from all together to each chunk
 
@@ -68,14 +43,17 @@ some-symbols [] [] h = h
 some-symbols [] (x ∷ unread) h = omega arith
 some-symbols (x ∷ stack) unread h = omega arith
 
-chunk-symbols : (c : Chunk Span) (chunks : List (Chunk Span)) → unreadSize (symbolsOf (c ∷ chunks)) ≡ stackSize (c .stack) + unreadSize (c .unread) + unreadSize (symbolsOf chunks)
-chunk-symbols c chunks = omega (arith, unread-append (stackSymbols (c .stack)) (c .unread ++ symbolsOf chunks), unread-append (c .unread) (symbolsOf chunks), stack-size (c .stack))
+chunk-symbols : (c : Chunk Span) (chunks : List (Chunk Span)) → unreadSize (symbolsOf (c ∷ chunks)) ≡ chunkSize (some c) + unreadSize (symbolsOf chunks)
+chunk-symbols c chunks =
+    let rest : List (Unread Span) = symbolsOf chunks in
+    omega (arith, unread-append (stackSymbols (c .stack)) (c .unread ++ rest), unread-append (c .unread) rest, stack-size (c .stack))
 
 holds-some : {chunks : List (Chunk Span)} → LastHolds chunks → 0 < unreadSize (symbolsOf chunks)
 holds-some (holds {c = c} h) = omega (arith, some-symbols (c .stack) (c .unread) h, chunk-symbols c [])
 holds-some (later-holds {c = c} {chunks = chunks} k) = omega (arith, holds-some k, chunk-symbols c chunks)
 
-room-begins : {n from end : ℕ} {c : Chunk Span} {chunks : List (Chunk Span)} → Room n (c ∷ chunks) end → Tiles n from (symbolsOf (c ∷ chunks)) end → from ≤ n + 1
+room-begins : {n from end : ℕ} {c : Chunk Span} {chunks : List (Chunk Span)} → Room n (c ∷ chunks) end → Tiles n from (symbolsOf (c ∷ chunks)) end
+    → from ≤ n + 1
 room-begins (nothing-live q) p = let z : _≡_ {A = ℕ} 0 1 = cc in absurd (omega arith)
 room-begins (ends-early h) p = omega (arith, tiles-end p)
 room-begins (last-holds h k) p = omega (arith, tiles-end p, holds-some k)
@@ -93,26 +71,29 @@ fits-of {t} {N} {n} {from} (some c ∷ chunks) p r (all-fine-cons f fs) (and-chu
     let rest : List (Unread Span) = symbolsOf (live chunks) in
     let s = rising-stack (c .stack) in
     let u = plain-unread (c .unread) in
-    let p₁ = tiles-cut stack (c .unread ++ rest) p in
-    let p₂ = tiles-cut (c .unread) rest (p₁ .back) in
-    let r₂ = ranged-back stack (c .unread ++ rest) r in
-    let head-is : p₁ .middle ≡ from + stackSize (c .stack) = omega (arith, tiles-end (p₁ .front), stack-size (c .stack)) in
-    let end-is : p₂ .middle ≡ from + (stackSize (c .stack) + unreadSize (c .unread)) = omega (arith, tiles-end (p₂ .front)) in
+    let p₁ = tiles-split stack (c .unread ++ rest) p in
+    let p₂ = tiles-split (c .unread) rest (p₁ .right) in
+    let r₁ = ranged-split stack (c .unread ++ rest) r in
+    let r₂ = ranged-split (c .unread) rest (r₁ .1) in
+    let head-is : p₁ .middle ≡ from + stackSize (c .stack) = omega (arith, tiles-end (p₁ .left), stack-size (c .stack)) in
+    let end-is : p₂ .middle ≡ from + (stackSize (c .stack) + unreadSize (c .unread)) = omega (arith, tiles-end (p₂ .left)) in
     live-fits
     (record {
       begins = room-begins m p;
-      stack-stands = placed-at refl head-is (placed-of (reverse (c .stack)) (rw (s .symbols-are) (p₁ .front)) (rw (s .symbols-are) (ranged-front stack (c .unread ++ rest) r)) (fine-reverse (c .stack) f));
-      unread-stands = placed-at head-is end-is (placed-of (map plain (c .unread)) (rw (u .symbols-are) (p₂ .front)) (rw (u .symbols-are) (ranged-front (c .unread) rest r₂)) (u .fine));
+      stack-stands =
+          placed-at refl head-is (placed-of (reverse (c .stack)) (rw (s .symbols-are) (p₁ .left)) (rw (s .symbols-are) (r₁ .0)) (fine-reverse (c .stack) f));
+      unread-stands = placed-at head-is end-is (placed-of (map plain (c .unread)) (rw (u .symbols-are) (p₂ .left)) (rw (u .symbols-are) (r₂ .0)) (u .fine));
       stuck-fine = k;
     })
-    (fits-of chunks (rw end-is at (p₂ .back)) (ranged-back (c .unread) rest r₂) fs ks (room-after m))
+    (fits-of chunks (rw end-is at (p₂ .right)) (r₂ .1) fs ks (room-after m))
 
 pub kept-fits : {t N n : ℕ} {s : State Span} → Kept t N n s → AllFit t N n 0 (s .chunks)
 kept-fits {s = s} k = fits-of (s .chunks) (k .tiles) (k .ranged) (k .fine) (k .stuck-fine) (ending-room (k .ending))
 
 -- ---- back
 
-pub tiles-from : {t N n from : ℕ} {chunks : List (Option (Chunk Span))} → AllFit t N n from chunks → Tiles n from (symbolsOf (live chunks)) (from + total chunks)
+pub tiles-from : {t N n from : ℕ} {chunks : List (Option (Chunk Span))} → AllFit t N n from chunks
+    → Tiles n from (symbolsOf (live chunks)) (from + total chunks)
 tiles-from {from = from} no-more-fit = let z : from + 0 ≡ from = omega arith in rw z tiled
 tiles-from {from = from} (gone-fits {chunks = chunks} f) = let z : from + (0 + total chunks) ≡ from + total chunks = omega arith in rw z (tiles-from f)
 tiles-from {from = from} (live-fits {c = c} {chunks = chunks} f fs) =
@@ -132,7 +113,8 @@ ranged-from (live-fits {c = c} f fs) =
 pub fine-from : {t N n from : ℕ} {chunks : List (Option (Chunk Span))} → AllFit t N n from chunks → AllFine (live chunks)
 fine-from no-more-fit = all-fine-nil
 fine-from (gone-fits f) = fine-from f
-fine-from (live-fits {c = c} f fs) = all-fine-cons (rw (reverse-reverse (c .stack)) at (fine-reverse (reverse (c .stack)) (fine-of (f .stack-stands)))) (fine-from fs)
+fine-from (live-fits {c = c} f fs) =
+    all-fine-cons (rw (reverse-reverse (c .stack)) at (fine-reverse (reverse (c .stack)) (fine-of (f .stack-stands)))) (fine-from fs)
 
 pub stuck-from : {t N n from : ℕ} {chunks : List (Option (Chunk Span))} → AllFit t N n from chunks → AllStuckFine (live chunks)
 stuck-from no-more-fit = no-chunk

@@ -32,7 +32,7 @@ use Rattle.area.specs.Sides.{risingWords, Placed, no-more, then-stands, 
 use Rattle.area.specs.Rising.{rising-stack, plain-unread}
 use Rattle.area.specs.Walks.{Fits, AllFit, no-more-fit, gone-fits, live-fits, status-word}
 use Rattle.area.specs.Chunkwise.{kept-fits}
-use Rattle.area.specs.Encoded.{area, fromSlots, fromUnusedSlots, fromUnusedMade, chunks-at, moves-at, count-at, table-at, slots-at, made-at}
+use Rattle.area.specs.Encoded.{area, slotsFrom, slots-past, fromSlots, fromUnusedSlots, fromUnusedMade, chunks-at, moves-at, count-at, table-at, slots-at, made-at}
 use Rattle.area.specs.Shape.{areaInShape}
 use Rattle.area.specs.ShapeExactly.{HoldsState, shape-state}
 
@@ -47,14 +47,14 @@ value-of (first-end q e v) = v
 value-of (last-end q e v) = v
 value-of (within l h e v) = v
 
-unread-back : (x : Unread Span) → unreadOf (symbol x) (valueOf x) ≡ x
-unread-back (terminalAt a v) = refl
-unread-back (nonterminalAt k v) = refl
+symbol-read : (x : Unread Span) → unreadOf (symbol x) (valueOf x) ≡ x
+symbol-read (terminalAt a v) = refl
+symbol-read (nonterminalAt k v) = refl
 
-entry-back : (x : Entry Span) → entryOf (markWord x) (symbol (unmarked x)) (valueOf (unmarked x)) ≡ x
-entry-back (terminalOn true a v) = refl
-entry-back (terminalOn false a v) = refl
-entry-back (nonterminalOn k v) = refl
+entry-read : (x : Entry Span) → entryOf (markWord x) (symbol (unmarked x)) (valueOf (unmarked x)) ≡ x
+entry-read (terminalOn true a v) = refl
+entry-read (terminalOn false a v) = refl
+entry-read (nonterminalOn k v) = refl
 
 status-back : (s : Status) → statusOf (statusWord s) ≡ s
 status-back running = refl
@@ -72,7 +72,7 @@ module _ (t N n : ℕ) (few : t < 256) (words : List ℕ) where
     mark-at : slotWord words s 1 ≡ markWord x
     size-at : slotWord words s 2 ≡ size (unmarked x)
 
-  entry-words : (s : ℕ) (x : Entry Span) (after : List ℕ) → drop (slotsAt words + 4 * s) words ≡ block (markWord x) (unmarked x) ++ after → EntryAt s x
+  entry-words : (s : ℕ) (x : Entry Span) (after : List ℕ) → slotsFrom words s ≡ block (markWord x) (unmarked x) ++ after → EntryAt s x
   unfolding block
   entry-words s x after d =
       let at : (k : ℕ) → slotWord words s k ≡ getD (block (markWord x) (unmarked x) ++ after) k 0 = λ k. getD-past words (slotsAt words + 4 * s) k _ d in
@@ -80,39 +80,36 @@ module _ (t N n : ℕ) (few : t < 256) (words : List ℕ) where
 
   entry-at : (s : ℕ) (x : Entry Span) → Stands t N n s x → EntryAt s x → entryAt words s ≡ x
   entry-at s x st e =
-      rw (e .symbol-at, e .mark-at, e .size-at, symbol-back t N few (symbol (unmarked x)) (st .ranged), ← value-of (st .lies)) (entry-back x)
+      rw (e .symbol-at, e .mark-at, e .size-at, symbol-back t N few (symbol (unmarked x)) (st .ranged), ← value-of (st .lies)) (entry-read x)
 
   unread-at : (s : ℕ) (x : Entry Span) → Stands t N n s x → EntryAt s x → unreadAt words s ≡ unmarked x
   unread-at s x st e =
-      rw (e .symbol-at, e .size-at, symbol-back t N few (symbol (unmarked x)) (st .ranged), ← value-of (st .lies)) (unread-back (unmarked x))
-
-  after-entry : (s : ℕ) (x : Entry Span) (after : List ℕ) → drop (slotsAt words + 4 * s) words ≡ block (markWord x) (unmarked x) ++ after
-      → drop (slotsAt words + 4 * (s + size (unmarked x))) words ≡ after
-  after-entry s x after d =
-      drop-past words (slotsAt words + 4 * s) (slotsAt words + 4 * (s + size (unmarked x))) (block (markWord x) (unmarked x)) after
-      (omega (arith, length-block (markWord x) (unmarked x))) d
+      rw (e .symbol-at, e .size-at, symbol-back t N few (symbol (unmarked x)) (st .ranged), ← value-of (st .lies)) (symbol-read (unmarked x))
 
   stack-back : {s e : ℕ} {entries : List (Entry Span)} → Placed t N n s entries e → (fuel : ℕ) (below : List (Entry Span)) (after : List ℕ) → e ≤ s + fuel
-      → drop (slotsAt words + 4 * s) words ≡ risingWords entries ++ after → readStack fuel words s e below ≡ reverseAux entries below
+      → slotsFrom words s ≡ risingWords entries ++ after → readStack fuel words s e below ≡ reverseAux entries below
   stack-back (no-more q) zero below after h d = refl
   stack-back {s} {e} (no-more q) (suc fuel) below after h d = rw (le-ltb s e (omega arith), readStack)
   stack-back (then-stands {x = x} st p) zero below after h d = absurd (omega (arith, placed-end p))
   stack-back {s} {e} (then-stands {x = x} {entries = entries} st p) (suc fuel) below after h d =
-      let d₁ : drop (slotsAt words + 4 * s) words ≡ block (markWord x) (unmarked x) ++ (risingWords entries ++ after) = d ∙ append-assoc (block (markWord x) (unmarked x)) (risingWords entries) after in
+      let own : List ℕ = block (markWord x) (unmarked x) in
+      let d₁ = d ∙ append-assoc own (risingWords entries) after in
       let w = entry-words s x (risingWords entries ++ after) d₁ in
       rw (lt-ltb s e (omega (arith, placed-end p)), readStack, entry-at s x st w, w .size-at)
-      (stack-back p fuel (x ∷ below) after (omega arith) (after-entry s x (risingWords entries ++ after) d₁))
+      (stack-back p fuel (x ∷ below) after (omega arith)
+      (slots-past words s (size (unmarked x)) own (risingWords entries ++ after) (length-block (markWord x) (unmarked x)) d₁))
 
-  unread-back-all : {s e : ℕ} {entries : List (Entry Span)} → Placed t N n s entries e → (fuel : ℕ) (after : List ℕ) → e ≤ s + fuel
-      → drop (slotsAt words + 4 * s) words ≡ risingWords entries ++ after → readUnread fuel words s e ≡ map unmarked entries
-  unread-back-all (no-more q) zero after h d = refl
-  unread-back-all {s} {e} (no-more q) (suc fuel) after h d = rw (le-ltb s e (omega arith), readUnread)
-  unread-back-all (then-stands {x = x} st p) zero after h d = absurd (omega (arith, placed-end p))
-  unread-back-all {s} {e} (then-stands {x = x} {entries = entries} st p) (suc fuel) after h d =
-      let d₁ : drop (slotsAt words + 4 * s) words ≡ block (markWord x) (unmarked x) ++ (risingWords entries ++ after) = d ∙ append-assoc (block (markWord x) (unmarked x)) (risingWords entries) after in
+  unread-back : {s e : ℕ} {entries : List (Entry Span)} → Placed t N n s entries e → (fuel : ℕ) (after : List ℕ) → e ≤ s + fuel
+      → slotsFrom words s ≡ risingWords entries ++ after → readUnread fuel words s e ≡ map unmarked entries
+  unread-back (no-more q) zero after h d = refl
+  unread-back {s} {e} (no-more q) (suc fuel) after h d = rw (le-ltb s e (omega arith), readUnread)
+  unread-back (then-stands {x = x} st p) zero after h d = absurd (omega (arith, placed-end p))
+  unread-back {s} {e} (then-stands {x = x} {entries = entries} st p) (suc fuel) after h d =
+      let own : List ℕ = block (markWord x) (unmarked x) in
+      let d₁ = d ∙ append-assoc own (risingWords entries) after in
       let w = entry-words s x (risingWords entries ++ after) d₁ in
-      let rest = unread-back-all p fuel after (omega arith) (after-entry s x (risingWords entries ++ after) d₁) in
-      rw (lt-ltb s e (omega (arith, placed-end p)), readUnread, unread-at s x st w, w .size-at, rest)
+      let d₂ = slots-past words s (size (unmarked x)) own (risingWords entries ++ after) (length-block (markWord x) (unmarked x)) d₁ in
+      rw (lt-ltb s e (omega (arith, placed-end p)), readUnread, unread-at s x st w, w .size-at, unread-back p fuel after (omega arith) d₂)
 
   -- ---- a chunk
 
@@ -127,7 +124,7 @@ module _ (t N n : ℕ) (few : t < 256) (words : List ℕ) where
       rw (e, chunkOf)
 
   live-back : (c from : ℕ) (chunk : Chunk Span) (after beyond : List ℕ) → Fits t N n from chunk → drop (5 + 5 * c) words ≡ row from (some chunk) ++ after
-      → drop (slotsAt words + 4 * from) words ≡ chunkWords (some chunk) ++ beyond → chunkOf words c ≡ some chunk
+      → slotsFrom words from ≡ chunkWords (some chunk) ++ beyond → chunkOf words c ≡ some chunk
   live-back c from chunk after beyond f d b =
       let head : ℕ = from + stackSize (chunk .stack) in
       let end : ℕ = from + chunkSize (some chunk) in
@@ -135,33 +132,35 @@ module _ (t N n : ℕ) (few : t < 256) (words : List ℕ) where
       let p = plain-unread (chunk .unread) in
       let at : (k : ℕ) → k < 5 → rowWord words c k ≡ getD (row from (some chunk)) k 0 = row-words c from (some chunk) after d in
       let e : eqb (rowWord words c 0) 0 ≡ false = ap (λ x. eqb x 0) (at 0 (omega arith)) ∙ status-word (chunk .status) in
-      let b₁ : drop (slotsAt words + 4 * from) words ≡ stackWords (chunk .stack) ++ (unreadWords (chunk .unread) ++ beyond) = b ∙ append-assoc (stackWords (chunk .stack)) (unreadWords (chunk .unread)) beyond in
-      let b₂ : drop (slotsAt words + 4 * head) words ≡ unreadWords (chunk .unread) ++ beyond =
-      drop-past words (slotsAt words + 4 * from) (slotsAt words + 4 * head) (stackWords (chunk .stack)) (unreadWords (chunk .unread) ++ beyond) (omega (arith, length-stack (chunk .stack))) b₁ in
+      let b₁ = b ∙ append-assoc (stackWords (chunk .stack)) (unreadWords (chunk .unread)) beyond in
+      let b₂ = slots-past words from (stackSize (chunk .stack)) (stackWords (chunk .stack)) (unreadWords (chunk .unread) ++ beyond) (length-stack (chunk .stack)) b₁ in
       let stack-is : readStack (head - from) words from head [] ≡ chunk .stack =
-      stack-back (f .stack-stands) (head - from) [] (unreadWords (chunk .unread) ++ beyond) (omega arith) (rw (r .words-are) b₁) ∙ reverse-reverse (chunk .stack) in
+      stack-back (f .stack-stands) (head - from) [] (unreadWords (chunk .unread) ++ beyond) (omega arith) (rw (r .words-are) b₁)
+      ∙ reverse-reverse (chunk .stack) in
       let unread-is : readUnread (end - head) words head end ≡ chunk .unread =
-      unread-back-all (f .unread-stands) (end - head) beyond (omega arith) (rw (p .words-are) b₂) ∙ p .symbols-are in
+      unread-back (f .unread-stands) (end - head) beyond (omega arith) (rw (p .words-are) b₂) ∙ p .symbols-are in
       rw (e, chunkOf, at 0 (omega arith), at 1 (omega arith), at 2 (omega arith), at 3 (omega arith), stack-is, unread-is, status-back (chunk .status))
 
   chunks-back : {from : ℕ} {chunks : List (Option (Chunk Span))} → AllFit t N n from chunks → (c : ℕ) (after beyond : List ℕ)
-      → drop (5 + 5 * c) words ≡ rows from chunks ++ after → drop (slotsAt words + 4 * from) words ≡ slots chunks ++ beyond
+      → drop (5 + 5 * c) words ≡ rows from chunks ++ after → slotsFrom words from ≡ slots chunks ++ beyond
       → (i : ℕ) → i < length chunks → chunkOf words (c + i) ≡ getD chunks i none
   chunks-back no-more-fit c after beyond d b i h = absurd (omega arith)
-  chunks-back {from} (gone-fits {chunks = chunks} f) c after beyond d b zero h =
-      rw (add-zero c) (gone-back c from (rows (from + 0) chunks ++ after) d)
+  chunks-back {from} (gone-fits {chunks = chunks} f) c after beyond d b zero h = rw (add-zero c) (gone-back c from (rows (from + 0) chunks ++ after) d)
   chunks-back {from} (gone-fits {chunks = chunks} f) c after beyond d b (suc i) h =
       let z : from + 0 ≡ from = omega arith in
       let j : c + suc i ≡ c + 1 + i = omega arith in
-      rw j (chunks-back f (c + 1) after beyond (rw z at (drop-past words (5 + 5 * c) (5 + 5 * (c + 1)) (row from none) (rows (from + 0) chunks ++ after) (omega arith) d)) b i (omega arith))
+      let d₁ = drop-past words (5 + 5 * c) (5 + 5 * (c + 1)) (row from none) (rows (from + 0) chunks ++ after) (omega arith) d in
+      rw j (chunks-back f (c + 1) after beyond (rw z at d₁) b i (omega arith))
   chunks-back {from} (live-fits {c = chunk} {chunks = chunks} f fs) c after beyond d b zero h =
-      rw (add-zero c) (live-back c from chunk (rows (from + chunkSize (some chunk)) chunks ++ after) (slots chunks ++ beyond) f d (b ∙ append-assoc (chunkWords (some chunk)) (slots chunks) beyond))
+      let b₁ = b ∙ append-assoc (chunkWords (some chunk)) (slots chunks) beyond in
+      rw (add-zero c) (live-back c from chunk (rows (from + chunkSize (some chunk)) chunks ++ after) (slots chunks ++ beyond) f d b₁)
   chunks-back {from} (live-fits {c = chunk} {chunks = chunks} f fs) c after beyond d b (suc i) h =
       let j : c + suc i ≡ c + 1 + i = omega arith in
-      let e : ℕ = from + chunkSize (some chunk) in
-      rw j (chunks-back fs (c + 1) after beyond (drop-past words (5 + 5 * c) (5 + 5 * (c + 1)) (row from (some chunk)) (rows e chunks ++ after) (omega arith) d)
-      (drop-past words (slotsAt words + 4 * from) (slotsAt words + 4 * e) (chunkWords (some chunk)) (slots chunks ++ beyond) (omega (arith, length-chunk (some chunk))) (b ∙ append-assoc (chunkWords (some chunk)) (slots chunks) beyond))
-      i (omega arith))
+      let b₁ = b ∙ append-assoc (chunkWords (some chunk)) (slots chunks) beyond in
+      let b₂ = slots-past words from (chunkSize (some chunk)) (chunkWords (some chunk)) (slots chunks ++ beyond) (length-chunk (some chunk)) b₁ in
+      let others : List ℕ = rows (from + chunkSize (some chunk)) chunks ++ after in
+      let d₁ = drop-past words (5 + 5 * c) (5 + 5 * (c + 1)) (row from (some chunk)) others (omega arith) d in
+      rw j (chunks-back fs (c + 1) after beyond d₁ b₂ i (omega arith))
 
 -- ---- the reductions
 
@@ -171,7 +170,8 @@ made-back [] words i after d = refl
 made-back (x ∷ reductions) words i after d =
     let z : getD words i 0 ≡ getD words (i + 0) 0 = ap (λ j. getD words j 0) (sym (add-zero i)) in
     let at : (k : ℕ) → getD words (i + k) 0 ≡ getD (reportWords (x ∷ reductions) ++ after) k 0 = λ k. getD-past words i k _ d in
-    rw (z ∙ at 0, at 1, at 2, made-back reductions words (i + 3) after (drop-past words i (i + 3) (reportWords (x ∷ [])) (reportWords reductions ++ after) refl d))
+    let d₁ = drop-past words i (i + 3) (reportWords (x ∷ [])) (reportWords reductions ++ after) refl d in
+    rw (z ∙ at 0, at 1, at 2, made-back reductions words (i + 3) after d₁)
 
 -- ---- the whole
 
@@ -181,10 +181,9 @@ module _ {t N n : ℕ} {s : State Span} (few : t < 256) (k : Kept t N n s) (rest
   unfolding decode
   decode-encode =
       let words : List ℕ = area n s rest in
-      let b : drop (slotsAt words + 4 * 0) words ≡ fromSlots n s rest = rw add-zero (slots-at n s rest) in
-      let cs =
-      ap (λ c. map (chunkOf words) (upTo c)) (chunks-at n s rest)
-      ∙ map-upTo (chunkOf words) (s .chunks) none (λ i h. rw zero-add at (chunks-back t N n few words (kept-fits k) 0 (fromSlots n s rest) (fromUnusedSlots n s rest) (table-at n s rest) b i h)) in
+      let at : (i : ℕ) → i < length (s .chunks) → chunkOf words i ≡ getD (s .chunks) i none =
+      λ i h. rw zero-add at (chunks-back t N n few words (kept-fits k) 0 (fromSlots n s rest) (fromUnusedSlots n s rest) (table-at n s rest) (slots-at n s rest) i h) in
+      let cs = ap (λ c. map (chunkOf words) (upTo c)) (chunks-at n s rest) ∙ map-upTo (chunkOf words) (s .chunks) none at in
       let ms =
       ap (λ m. readMade m words (madeAtWord words)) (count-at n s rest)
       ∙ made-back (s .reductions) words (madeAtWord words) (fromUnusedMade n s rest) (made-at n s rest (within-slots k)) in
@@ -207,5 +206,6 @@ pub encode-decode : (t N : ℕ) (words : List ℕ) → t < 256 → getD words 2 
 encode-decode t N words few low h =
     let r = decoded t N words few low h in
     let n : ℕ = getD words 0 0 in
-    let l : length (encode n (decode words)) ≡ need n (getD words 1 0) = encode-length (r .kept) ∙ ap (λ c. need n c) (r .chunks-are) in
-    sym (ap (λ l. take (need n (getD words 1 0)) l) (r .is) ∙ take-at (encode n (decode words)) (drop (need n (getD words 1 0)) words) (need n (getD words 1 0)) l)
+    let k : ℕ = need n (getD words 1 0) in
+    let l : length (encode n (decode words)) ≡ k = encode-length (r .kept) ∙ ap (λ c. need n c) (r .chunks-are) in
+    sym (ap (λ l. take k l) (r .is) ∙ take-at (encode n (decode words)) (drop k words) k l)

@@ -2,10 +2,12 @@
 -- docs/AREA.md, the layout: front, table, slots, reductions.
 -- Rests on Layout and Lengths.
 --
--- Main statements: table-at, slots-at, unused-slots-at, made-at, unused-made-at, rest-at; moves-at (the two words of the count of moves).
+-- Main definitions: slotsFrom, area. Main statements: slots-past; area-is; tokens-at, chunks-at, moves-at, count-at (the front); table-at,
+-- slots-at, unused-slots-at, made-at, unused-made-at, rest-at.
 use mathlib.Core.Path.{_≡_, refl, ap}
 use mathlib.Core.List.{List, _++_, append-assoc}
 use Prim.Native.Nat.{ℕ, _+_, _*_, _-_, _%_, _≤_}
+use native.Mathlib.Nat.{zero-add}
 use native.Mathlib.Omega.{arith}
 use lib.ListN.{length, getD, drop, length-replicate}
 use Rattle.laws.specs.Parts.{drop-past}
@@ -14,6 +16,14 @@ use Rattle.language.specs.Reports.{reportWords}
 use Rattle.machine.specs.States.{State}
 use Rattle.area.specs.Layout.{need, front, rows, slots, total, zeros, encode, slotsAt, madeAtWord}
 use Rattle.area.specs.Lengths.{length-rows, length-slots, length-report, parts-length}
+
+-- the words from slot s on
+abbrev pub slotsFrom : List ℕ → ℕ → List ℕ
+slotsFrom words s = drop (slotsAt words + 4 * s) words
+
+-- .. and from k slots further on
+pub slots-past : (words : List ℕ) (s k : ℕ) (p q : List ℕ) → length p ≡ 4 * k → slotsFrom words s ≡ p ++ q → slotsFrom words (s + k) ≡ q
+slots-past words s k p q l d = drop-past words (slotsAt words + 4 * s) (slotsAt words + 4 * (s + k)) p q (omega arith) d
 
 module _ (n : ℕ) (s : State Span) (rest : List ℕ) where
   abbrev pub area : List ℕ
@@ -62,11 +72,11 @@ module _ (n : ℕ) (s : State Span) (rest : List ℕ) where
   pub slotsAt-is : slotsAt area ≡ 5 + 5 * length (s .chunks)
   slotsAt-is = ap (λ k. 5 + 5 * k) chunks-at
 
-  pub slots-at : drop (slotsAt area) area ≡ fromSlots
-  slots-at = drop-past area 5 (slotsAt area) (rows 0 (s .chunks)) fromSlots (omega (arith, slotsAt-is, length-rows 0 (s .chunks))) table-at
+  pub slots-at : slotsFrom area 0 ≡ fromSlots
+  slots-at = drop-past area 5 (slotsAt area + 4 * 0) (rows 0 (s .chunks)) fromSlots (omega (arith, slotsAt-is, length-rows 0 (s .chunks))) table-at
 
-  pub unused-slots-at : drop (slotsAt area + 4 * total (s .chunks)) area ≡ fromUnusedSlots
-  unused-slots-at = drop-past area (slotsAt area) (slotsAt area + 4 * total (s .chunks)) (slots (s .chunks)) fromUnusedSlots (omega (arith, length-slots (s .chunks))) slots-at
+  pub unused-slots-at : slotsFrom area (total (s .chunks)) ≡ fromUnusedSlots
+  unused-slots-at = rw zero-add at (slots-past area 0 (total (s .chunks)) (slots (s .chunks)) fromUnusedSlots (length-slots (s .chunks)) slots-at)
 
   module _ (few : total (s .chunks) ≤ n + 2) where
     pub made-at : drop (madeAtWord area) area ≡ fromMade
@@ -75,7 +85,9 @@ module _ (n : ℕ) (s : State Span) (rest : List ℕ) where
         (omega (arith, tokens-at, length-replicate {A = ℕ} (4 * (n + 2 - total (s .chunks))) 0)) unused-slots-at
 
     pub unused-made-at : drop (madeAtWord area + 3 * length (s .reductions)) area ≡ fromUnusedMade
-    unused-made-at = drop-past area (madeAtWord area) (madeAtWord area + 3 * length (s .reductions)) (reportWords (s .reductions)) fromUnusedMade (omega (arith, length-report (s .reductions))) made-at
+    unused-made-at =
+        drop-past area (madeAtWord area) (madeAtWord area + 3 * length (s .reductions)) (reportWords (s .reductions)) fromUnusedMade
+        (omega (arith, length-report (s .reductions))) made-at
 
     pub rest-at : length (s .reductions) ≤ n → drop (need n (length (s .chunks))) area ≡ rest
     rest-at m = drop-past area 0 (need n (length (s .chunks))) (encode n s) rest (omega (arith, parts-length n s few m)) refl

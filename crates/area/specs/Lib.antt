@@ -1,8 +1,10 @@
+pub mod AreaSamples
 pub mod Blocks
 pub mod Chunkwise
 pub mod Decode
 pub mod Encoded
 pub mod EndMarkOfShape
+pub mod InShape
 pub mod Kept
 pub mod KeptByTurns
 pub mod Layout
@@ -14,7 +16,9 @@ pub mod Rules
 pub mod RulesAfterTurn
 pub mod Safe
 pub mod Shape
+pub mod ShapeCode
 pub mod ShapeExactly
+pub mod ShapeOfKept
 pub mod Sides
 pub mod Start
 pub mod StartKept

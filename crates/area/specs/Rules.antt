@@ -10,26 +10,25 @@ use mathlib.Core.Bool.{Bool, true, false, false≢true}
 use mathlib.Core.List.{List, [], _∷_, _++_}
 use mathlib.Core.Option.{Option, none, some}
 use Prim.Native.Nat.{ℕ, zero, suc, _+_, _≤_, _<_}
-use native.Mathlib.Nat.{add-zero}
 use native.Mathlib.Omega.{arith}
-use lib.Dec.{eqb}
+use lib.Dec.{eqb, leb}
 use lib.ListN.{length, getD, take, drop}
 use Rattle.laws.specs.Tests.{eqb-true, eq-eqb, leb-true, le-leb}
 use Rattle.laws.specs.Picks.{pick, allOf, each-of}
-use Rattle.laws.specs.Passed.{must-pass, must-fail}
+use Rattle.laws.specs.Passed.{both, unless}
 use Rattle.language.specs.Trees.{Span, Reduction}
 use Rattle.machine.specs.Entries.{Unread, Entry}
 use Rattle.machine.specs.Chunks.{Chunk}
 use Rattle.machine.specs.States.{live}
 use Rattle.machine.specs.Bounded.{unreadIn, symbolsIn, terminalsIn, runningIn, potentialIn}
 use Rattle.area.specs.declared.shape.Walk.{Walk}
-use Rattle.area.specs.Layout.{stackSize, unreadSize, statusWord, total, rows, slots, zeros, encode, slotsAt}
+use Rattle.area.specs.Layout.{stackSize, unreadSize, statusWord, total, rows, slots, zeros, encode}
 use Rattle.area.specs.Kept.{LastHolds, Ending, whole, accepted, FirstLive, first-live}
 use Rattle.area.specs.Lengths.{tiles-within}
 use Rattle.area.specs.Shape.{walkOf, firstFits, endFits, potentialOf, blank}
 use Rattle.area.specs.Walks.{AllFit, walk-passes, counted-all, status-word}
 use Rattle.area.specs.Chunkwise.{tiles-from, last-from}
-use Rattle.area.specs.Encoded.{area}
+use Rattle.area.specs.Encoded.{area, slotsFrom}
 
 -- ---- the counts of a walk
 
@@ -47,13 +46,13 @@ pub total-within : {t N n : ℕ} {chunks : List (Option (Chunk Span))} → AllFi
 total-within {chunks = chunks} f = omega (arith, tiles-within (omega arith) (tiles-from f))
 
 pub walk-counts : {t N n : ℕ} {chunks : List (Option (Chunk Span))} → t < 256 → AllFit t N n 0 chunks → (words after beyond : List ℕ) → getD words 0 0 ≡ n
-    → getD words 1 0 ≡ length chunks → drop 5 words ≡ rows 0 chunks ++ after → drop (slotsAt words) words ≡ slots chunks ++ beyond
+    → getD words 1 0 ≡ length chunks → drop 5 words ≡ rows 0 chunks ++ after → slotsFrom words 0 ≡ slots chunks ++ beyond
     → Counts chunks (walkOf t N words)
 unfolding walkOf
 walk-counts {t} {N} {n} {chunks} few f words after beyond n-is c-is d b =
     let fresh : Walk = record { ok = true; at = 0; live = 0; running = 0; unread = 0; symbols = 0; terminals = 0 } in
     let r = counted-all chunks fresh refl in
-    rw (c-is, walk-passes t N n few words n-is f 5 fresh after beyond refl refl (omega (arith, total-within f)) d (rw add-zero b))
+    rw (c-is, walk-passes t N n few words n-is f 5 fresh after beyond refl refl (omega (arith, total-within f)) d b)
     (record {
       ok-is = r .ok-then;
       at-is = omega (arith, r .at-then);
@@ -68,7 +67,7 @@ walk-counts {t} {N} {n} {chunks} few f words after beyond n-is c-is d b =
 pub potential-is : {chunks : List (Option (Chunk Span))} {w : Walk} → Counts chunks w → potentialOf w ≡ potentialIn (live chunks)
 potential-is c = rw (c .unread-is, c .symbols-are, c .live-is, c .terminals-are, c .running-is)
 
--- ---- (d) chunk 0
+-- ---- (d) chunk 0, and (e) the last end
 
 some-stack : (stack : List (Entry Span)) → 0 < length stack → 0 < stackSize stack
 some-stack [] h = h
@@ -122,36 +121,39 @@ module _ (n moves : ℕ) (reductions : List (Reduction Span)) (rest : List ℕ) 
   first-of [] h e = absurd (omega arith)
   first-of (none ∷ chunks) h e = absurd (false≢true e)
   first-of (some c ∷ chunks) h e =
-      let p = must-fail (λ b. b) false refl (eqb (statusWord (c .status)) 0) _ e in
+      let p = unless (eqb (statusWord (c .status)) 0) (leb 1 (0 + stackSize (c .stack))) e in
       first-live (stack-some (c .stack) (omega (arith, leb-true 1 (0 + stackSize (c .stack)) (p .good))))
 
-  -- ---- (e) the last end
-
-  end-tested : {chunks : List (Option (Chunk Span))} {w : Walk} → FirstLive chunks → Counts chunks w → EndView n (live chunks) (total chunks) → endFits (with chunks) w ≡ true
+  end-tested : {chunks : List (Option (Chunk Span))} {w : Walk} → FirstLive chunks → Counts chunks w → EndView n (live chunks) (total chunks)
+      → endFits (with chunks) w ≡ true
   unfolding encode
   end-tested {w = w} f k (whole-view q h) = rw (eq-eqb (w .at) (n + 2) (k .at-is ∙ q))
   end-tested {w = w} (first-live {c = c} {chunks = chunks} f) k (accepted-view q l u) =
       let all-else : total chunks ≡ 0 = none-total chunks (omega arith) in
       let nothing-unread : unreadSize (c .unread) ≡ 0 = none-size (c .unread) (omega arith) in
       let head-is : 0 + stackSize (c .stack) ≡ n + 1 = omega arith in
-      either-true (eqb (w .at) (n + 2)) (rw (eq-eqb (w .at) (n + 1) (k .at-is ∙ q), eq-eqb (w .live) 1 (k .live-is ∙ l), eq-eqb (0 + stackSize (c .stack)) (n + 1) head-is))
+      either-true (eqb (w .at) (n + 2))
+      (rw (eq-eqb (w .at) (n + 1) (k .at-is ∙ q), eq-eqb (w .live) 1 (k .live-is ∙ l), eq-eqb (0 + stackSize (c .stack)) (n + 1) head-is))
 
-  pub end-to : {chunks : List (Option (Chunk Span))} {w : Walk} → FirstLive chunks → Counts chunks w → Ending n (live chunks) (total chunks) → endFits (with chunks) w ≡ true
+  pub end-to : {chunks : List (Option (Chunk Span))} {w : Walk} → FirstLive chunks → Counts chunks w → Ending n (live chunks) (total chunks)
+      → endFits (with chunks) w ≡ true
   end-to f k e = end-tested f k (end-view e)
 
-  pub end-of : {t N : ℕ} {chunks : List (Option (Chunk Span))} {w : Walk} → AllFit t N n 0 chunks → FirstLive chunks → Counts chunks w → endFits (with chunks) w ≡ true
-      → Ending n (live chunks) (total chunks)
+  pub end-of : {t N : ℕ} {chunks : List (Option (Chunk Span))} {w : Walk} → AllFit t N n 0 chunks → FirstLive chunks → Counts chunks w
+      → endFits (with chunks) w ≡ true → Ending n (live chunks) (total chunks)
   unfolding encode
   end-of {w = w} a (first-live {c = c} {chunks = chunks} f) k = go (eqb (w .at) (n + 2)) refl
     where
       all : List (Option (Chunk Span))
       all = some c ∷ chunks
 
-      go : (b : Bool) → eqb (w .at) (n + 2) ≡ b → pick b true (allOf (eqb (w .at) (n + 1) ∷ eqb (w .live) 1 ∷ eqb (0 + stackSize (c .stack)) (n + 1) ∷ [])) ≡ true
-          → Ending n (live all) (total all)
+      tests : List Bool
+      tests = eqb (w .at) (n + 1) ∷ eqb (w .live) 1 ∷ eqb (0 + stackSize (c .stack)) (n + 1) ∷ []
+
+      go : (b : Bool) → eqb (w .at) (n + 2) ≡ b → pick b true (allOf tests) ≡ true → Ending n (live all) (total all)
       go true q h = let e : total all ≡ n + 2 = sym (k .at-is) ∙ eqb-true (w .at) (n + 2) q in rw e (whole (last-from a (omega arith) (omega arith)))
       go false q h =
-          let es = each-of (eqb (w .at) (n + 1) ∷ eqb (w .live) 1 ∷ eqb (0 + stackSize (c .stack)) (n + 1) ∷ []) h in
+          let es = each-of tests h in
           let e : total all ≡ n + 1 = sym (k .at-is) ∙ eqb-true (w .at) (n + 1) (es .0) in
           let l : length (live all) ≡ 1 = sym (k .live-is) ∙ eqb-true (w .live) 1 (es .1 .0) in
           let head-is : 0 + stackSize (c .stack) ≡ n + 1 = eqb-true (0 + stackSize (c .stack)) (n + 1) (es .1 .1 .0) in
@@ -167,5 +169,5 @@ pub blank-reads : (k : ℕ) (words : List ℕ) → k ≤ length words → blank 
 blank-reads zero words h e = refl
 blank-reads (suc k) [] h e = absurd (omega arith)
 blank-reads (suc k) (x ∷ words) h e =
-    let p = must-pass (λ b. b) false refl (eqb x 0) _ e in
+    let p = both (eqb x 0) (blank k words) e in
     ap₂ {C = List ℕ} (λ y l. y ∷ l) (eqb-true x 0 (p .passes)) (blank-reads k words (omega arith) (p .good))

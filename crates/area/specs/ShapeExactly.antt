@@ -1,88 +1,51 @@
 -- The shape rules are exact: an area is in shape exactly when its words are those of a state that keeps the rules, and then any others.
 -- Document 01, 15 BAD STATE: "grammar, matrix or work area breaks the shape rules listed in docs/"; "15 is given whenever one of them is
 -- broken and never otherwise".
--- Rests on Rules and WalksRead.
+-- t, N: how many terminals and nonterminals the grammar has; n: how many tokens the row has.
+-- Rests on ShapeOfKept, Rules and WalksRead.
 --
--- Main definitions: HoldsState, Stated. Main statements: shape-complete, shape-state, shape-exactly.
+-- Main definitions: HoldsState, Stated. Main statements: shape-state, shape-exactly.
 use mathlib.Core.Path.{_≡_, refl, sym, ap, ap₂, _∙_}
-use mathlib.Core.Bool.{true, false}
+use mathlib.Core.Bool.{true}
 use mathlib.Core.Logic.{_↔_}
 use mathlib.Core.List.{List, [], _∷_, _++_}
 use mathlib.Core.Option.{Option}
 use Prim.Native.Nat.{ℕ, zero, suc, _+_, _*_, _-_, _/_, _%_, _≤_, _<_}
-use native.Mathlib.Nat.{zero-add, add-zero}
+use native.Mathlib.Nat.{zero-add}
 use native.Mathlib.Omega.{arith}
 use lib.Dec.{leb}
-use lib.ListN.{length, getD, take, drop, length-append, length-drop}
-use Rattle.laws.specs.Tests.{leb-true, le-leb}
-use Rattle.laws.specs.Picks.{each-of, of-each}
-use Rattle.laws.specs.Passed.{must-pass}
-use Rattle.laws.specs.Parts.{cut-at}
+use lib.ListN.{length, getD, take, drop, length-drop}
+use Rattle.laws.specs.Tests.{leb-true}
+use Rattle.laws.specs.Picks.{each-of}
+use Rattle.laws.specs.Passed.{both}
+use Rattle.laws.specs.Parts.{held-at}
 use Rattle.language.specs.Trees.{Span, Reduction}
 use Rattle.language.specs.Reports.{reportWords}
 use Rattle.machine.specs.Chunks.{Chunk}
 use Rattle.machine.specs.States.{State, live}
-use Rattle.machine.specs.Bounded.{terminalsIn, potential, mostMoves}
+use Rattle.machine.specs.Bounded.{mostMoves}
 use Rattle.area.specs.declared.shape.Walk.{Walk}
 use Rattle.area.specs.Layout.{need, front, total, rows, slots, zeros, encode, slotsAt, madeAtWord}
-use Rattle.area.specs.Kept.{FirstLive, first-live, Kept}
-use Rattle.area.specs.Lengths.{encode-length, total-is, within-slots}
+use Rattle.area.specs.Kept.{FirstLive, Kept}
 use Rattle.area.specs.Shape.{ruleC, walkOf, firstFits, endFits, ruleI, ruleJ, potentialOf, blank, ruleK, areaInShape}
 use Rattle.area.specs.Walks.{AllFit}
 use Rattle.area.specs.WalksRead.{walk-reads}
-use Rattle.area.specs.Chunkwise.{kept-fits, tiles-from, ranged-from, fine-from, stuck-from}
-use Rattle.area.specs.Encoded.{area, fromSlots, fromUnusedSlots, fromMade, area-is, tokens-at, chunks-at, moves-at, count-at, table-at, slots-at, unused-slots-at, unused-made-at}
-use Rattle.area.specs.Rules.{Counts, total-within, walk-counts, potential-is, first-to, first-of, end-to, end-of, blank-zeros, blank-reads}
+use Rattle.area.specs.Chunkwise.{tiles-from, ranged-from, fine-from, stuck-from}
+use Rattle.area.specs.Encoded.{slotsFrom, area-is}
+use Rattle.area.specs.Rules.{Counts, total-within, walk-counts, potential-is, first-of, end-of, blank-reads}
+use Rattle.area.specs.ShapeOfKept.{shape-complete}
 
--- ---- every state that keeps the rules
+-- an area holds this state, which keeps the rules; only its first words are the state's, the rest may be any
+pub record HoldsState (t N : ℕ) (words : List ℕ) (s : State Span) : Type 0 where
+  pub chunks-are : length (s .chunks) ≡ getD words 1 0
+  pub is : words ≡ encode (getD words 0 0) s ++ drop (need (getD words 0 0) (getD words 1 0)) words
+  pub kept : Kept t N (getD words 0 0) s
 
-some-chunk : {chunks : List (Option (Chunk Span))} → FirstLive chunks → 1 ≤ length chunks
-some-chunk (first-live h) = omega arith
+pub record Stated (t N : ℕ) (words : List ℕ) : Type 0 where
+  pub state : State Span
+  pub holds-state : HoldsState t N words state
 
-module _ {t N n : ℕ} {s : State Span} (few : t < 256) (k : Kept t N n s) (rest : List ℕ) where
-  counts : Counts (s .chunks) (walkOf t N (area n s rest))
-  counts = walk-counts few (kept-fits k) (area n s rest) (fromSlots n s rest) (fromUnusedSlots n s rest) (tokens-at n s rest) (chunks-at n s rest) (table-at n s rest) (slots-at n s rest)
-
-  rule-c : ruleC (area n s rest) ≡ true
-  rule-c =
-      rw (
-        tokens-at n s rest,
-        chunks-at n s rest,
-        le-leb 1 n (k .some-token),
-        le-leb n 16384 (k .few-tokens),
-        le-leb 1 (length (s .chunks)) (some-chunk (k .first)),
-        le-leb (length (s .chunks)) 64 (k .few-chunks),
-        le-leb (need n (length (s .chunks))) (length (area n s rest)) (omega (arith, length-append (encode n s) rest, encode-length k)),
-      )
-
-  rule-i : ruleI (area n s rest) (walkOf t N (area n s rest)) ≡ true
-  rule-i = rw (count-at n s rest, counts .terminals-are, tokens-at n s rest) (le-leb (length (s .reductions) + terminalsIn (live (s .chunks))) n (k .room))
-
-  rule-j : ruleJ (area n s rest) (walkOf t N (area n s rest)) ≡ true
-  rule-j =
-      rw (moves-at n s rest, potential-is counts, tokens-at n s rest, chunks-at n s rest)
-      (le-leb (s .moves + potential s) (mostMoves n (length (s .chunks))) (k .bounded))
-
-  unused-slots : (at : ℕ) → at ≡ total (s .chunks) → blank (madeAtWord (area n s rest) - (slotsAt (area n s rest) + 4 * at)) (drop (slotsAt (area n s rest) + 4 * at) (area n s rest)) ≡ true
-  unused-slots at q =
-      let z : madeAtWord (area n s rest) - (slotsAt (area n s rest) + 4 * total (s .chunks)) ≡ 4 * (n + 2 - total (s .chunks)) = omega (arith, tokens-at n s rest) in
-      rw (q, z, unused-slots-at n s rest) (blank-zeros (4 * (n + 2 - total (s .chunks))) (fromMade n s rest))
-
-  unused-made : (made tokens : ℕ) → made ≡ length (s .reductions) → tokens ≡ n → blank (3 * (tokens - made)) (drop (madeAtWord (area n s rest) + 3 * made) (area n s rest)) ≡ true
-  unused-made made tokens q r = rw (q, r, unused-made-at n s rest (within-slots k)) (blank-zeros (3 * (n - length (s .reductions))) rest)
-
-  rule-k : ruleK (area n s rest) (walkOf t N (area n s rest)) ≡ true
-  rule-k = rw (unused-slots _ (counts .at-is)) (unused-made _ _ (count-at n s rest) (tokens-at n s rest))
-
-  -- .. is in shape, whatever stands after its words
-  pub shape-complete : areaInShape t N (encode n s ++ rest) ≡ true
-  unfolding areaInShape
-  shape-complete =
-      rw rule-c
-      (of-each (walkOf t N (area n s rest) .ok ∷ firstFits (area n s rest) ∷ endFits (area n s rest) (walkOf t N (area n s rest)) ∷ ruleI (area n s rest) (walkOf t N (area n s rest)) ∷ ruleJ (area n s rest) (walkOf t N (area n s rest)) ∷ ruleK (area n s rest) (walkOf t N (area n s rest)) ∷ [])
-      (counts .ok-is, (first-to n (s .moves) (s .reductions) rest (k .first), (end-to n (s .moves) (s .reductions) rest (k .first) counts (rw (total-is k) (k .ending)), (rule-i, (rule-j, (rule-k, tt)))))))
-
--- ---- every area in shape
+-- ---- the parts of an area
 
 -- reductions, three words each
 record Threes (m : ℕ) (words : List ℕ) : Type 0 where
@@ -116,16 +79,6 @@ front-is (a ∷ b ∷ c ∷ d ∷ e ∷ words) h l =
     let q : (c + 65536 * d) / 65536 ≡ d = omega arith in
     rw (p, q)
 
--- an area holds this state, which keeps the rules; only its first words are the state's, the rest may be any
-pub record HoldsState (t N : ℕ) (words : List ℕ) (s : State Span) : Type 0 where
-  pub chunks-are : length (s .chunks) ≡ getD words 1 0
-  pub is : words ≡ encode (getD words 0 0) s ++ drop (need (getD words 0 0) (getD words 1 0)) words
-  pub kept : Kept t N (getD words 0 0) s
-
-pub record Stated (t N : ℕ) (words : List ℕ) : Type 0 where
-  pub state : State Span
-  pub holds-state : HoldsState t N words state
-
 -- the parts of an area, one after the other
 module _ (words : List ℕ) (chunks : List (Option (Chunk Span))) (made : List (Reduction Span)) where
   abbrev n : ℕ
@@ -137,24 +90,21 @@ module _ (words : List ℕ) (chunks : List (Option (Chunk Span))) (made : List (
   abbrev after : List ℕ
   after = drop (need n (getD words 1 0)) words
 
-  assembled : 5 ≤ length words → getD words 2 0 < 65536 → length chunks ≡ getD words 1 0 → length made ≡ getD words 4 0 → total chunks ≤ n + 2 → length made ≤ n
-      → take (5 * length chunks) (drop 5 words) ≡ rows 0 chunks
-      → take (4 * total chunks) (drop (slotsAt words) words) ≡ slots chunks
-      → take (4 * (n + 2 - total chunks)) (drop (slotsAt words + 4 * total chunks) words) ≡ zeros (4 * (n + 2 - total chunks))
-      → take (3 * length made) (drop (madeAtWord words) words) ≡ reportWords made
-      → take (3 * (n - length made)) (drop (madeAtWord words + 3 * length made) words) ≡ zeros (3 * (n - length made))
+  assembled : 5 ≤ length words → getD words 2 0 < 65536 → length chunks ≡ getD words 1 0 → length made ≡ getD words 4 0
+      → drop 5 words ≡ rows 0 chunks ++ slotsFrom words 0
+      → slotsFrom words 0 ≡ slots chunks ++ slotsFrom words (total chunks)
+      → slotsFrom words (total chunks) ≡ zeros (4 * (n + 2 - total chunks)) ++ drop (madeAtWord words) words
+      → drop (madeAtWord words) words ≡ reportWords made ++ drop (madeAtWord words + 3 * length made) words
+      → drop (madeAtWord words + 3 * length made) words ≡ zeros (3 * (n - length made)) ++ after
       → words ≡ encode n stateOf ++ after
-  assembled five low c-is m-is l₁ l₂ p₁ p₂ p₃ p₄ p₅ =
-      let z₁ : 5 + 5 * length chunks ≡ slotsAt words = omega arith in
-      let z₃ : slotsAt words + 4 * total chunks + 4 * (n + 2 - total chunks) ≡ madeAtWord words = omega arith in
-      let z₅ : madeAtWord words + 3 * length made + 3 * (n - length made) ≡ need n (getD words 1 0) = omega arith in
-      let e₅ = cut-at words (madeAtWord words + 3 * length made) (3 * (n - length made)) ∙ ap₂ (λ l i. l ++ drop i words) p₅ z₅ in
-      let e₄ = cut-at words (madeAtWord words) (3 * length made) ∙ ap₂ {C = List ℕ} (λ l r. l ++ r) p₄ e₅ in
-      let e₃ = cut-at words (slotsAt words + 4 * total chunks) (4 * (n + 2 - total chunks)) ∙ ap₂ {C = List ℕ} (λ l r. l ++ r) p₃ (ap (λ i. drop i words) z₃ ∙ e₄) in
-      let e₂ = cut-at words (slotsAt words) (4 * total chunks) ∙ ap₂ {C = List ℕ} (λ l r. l ++ r) p₂ e₃ in
-      let e₁ = cut-at words 5 (5 * length chunks) ∙ ap₂ {C = List ℕ} (λ l r. l ++ r) p₁ (ap (λ i. drop i words) z₁ ∙ e₂) in
+  assembled five low c-is m-is e₁ e₂ e₃ e₄ e₅ =
+      let from₄ = e₄ ∙ ap (λ l. reportWords made ++ l) e₅ in
+      let from₃ = e₃ ∙ ap (λ l. zeros (4 * (n + 2 - total chunks)) ++ l) from₄ in
+      let from₁ = e₁ ∙ ap (λ l. rows 0 chunks ++ l) (e₂ ∙ ap (λ l. slots chunks ++ l) from₃) in
       front-is words five low ∙ ap₂ (λ c m. front n c (stateOf .moves) m ++ drop 5 words) (sym c-is) (sym m-is)
-      ∙ ap (λ l. front n (length chunks) (stateOf .moves) (length made) ++ l) e₁ ∙ sym (area-is n stateOf after)
+      ∙ ap (λ l. front n (length chunks) (stateOf .moves) (length made) ++ l) from₁ ∙ sym (area-is n stateOf after)
+
+-- ---- what the rules say of them
 
 -- (c)
 record InRanges (words : List ℕ) : Type 0 where
@@ -181,8 +131,8 @@ in-ranges words h =
 record Chunked (t N : ℕ) (words : List ℕ) : Type 0 where
   chunks : List (Option (Chunk Span))
   count-is : length chunks ≡ getD words 1 0
-  table-is : take (5 * length chunks) (drop 5 words) ≡ rows 0 chunks
-  slots-are : take (4 * total chunks) (drop (slotsAt words) words) ≡ slots chunks
+  table-is : drop 5 words ≡ rows 0 chunks ++ slotsFrom words 0
+  slots-are : slotsFrom words 0 ≡ slots chunks ++ slotsFrom words (total chunks)
   all-fit : AllFit t N (getD words 0 0) 0 chunks
   counts : Counts chunks (walkOf t N words)
 
@@ -191,37 +141,39 @@ unfolding walkOf
 chunked t N words few i o =
     let fresh : Walk = record { ok = true; at = 0; live = 0; running = 0; unread = 0; symbols = 0; terminals = 0 } in
     let r = walk-reads t N (getD words 0 0) few words refl (omega arith) (getD words 1 0) 5 fresh (omega arith) o in
-    let table : take (5 * length (r .chunks)) (drop 5 words) ≡ rows 0 (r .chunks) = rw (r .count-is) (r .table-is) in
-    let held : take (4 * total (r .chunks)) (drop (slotsAt words) words) ≡ slots (r .chunks) = rw add-zero at (r .slots-are) in
+    let table = held-at words 5 (5 * getD words 1 0) (slotsAt words + 4 * 0) (rows 0 (r .chunks)) (r .table-is) (omega arith) in
+    let held = held-at words (slotsAt words + 4 * 0) (4 * total (r .chunks)) (slotsAt words + 4 * total (r .chunks)) (slots (r .chunks)) (r .slots-are) (omega arith) in
     record {
       chunks = r .chunks;
       count-is = r .count-is;
       table-is = table;
       slots-are = held;
       all-fit = r .all-fit;
-      counts = walk-counts few (r .all-fit) words (drop (5 + 5 * length (r .chunks)) words) (drop (slotsAt words + 4 * total (r .chunks)) words) refl (sym (r .count-is))
-          (cut-at words 5 (5 * length (r .chunks)) ∙ ap (λ l. l ++ drop (5 + 5 * length (r .chunks)) words) table)
-          (cut-at words (slotsAt words) (4 * total (r .chunks)) ∙ ap (λ l. l ++ drop (slotsAt words + 4 * total (r .chunks)) words) held);
+      counts = walk-counts few (r .all-fit) words (slotsFrom words 0) (slotsFrom words (total (r .chunks))) refl (sym (r .count-is)) table held;
     }
 
 -- .. and its reductions
 module _ (t N : ℕ) (words : List ℕ) (i : InRanges words) (k : Chunked t N words) (made : List (Reduction Span)) (m-is : length made ≡ getD words 4 0) where
   -- (k): its words are those of a state
-  words-of : getD words 2 0 < 65536 → length made ≤ getD words 0 0 → take (3 * getD words 4 0) (drop (madeAtWord words) words) ≡ reportWords made
+  words-of : getD words 2 0 < 65536 → length made ≤ getD words 0 0 → take (3 * length made) (drop (madeAtWord words) words) ≡ reportWords made
       → ruleK words (walkOf t N words) ≡ true → words ≡ encode (getD words 0 0) (stateOf words (k .chunks) made) ++ after words (k .chunks) made
   words-of low l q h =
       let n : ℕ = getD words 0 0 in
       let c : ℕ = total (k .chunks) in
       let w : Walk = walkOf t N words in
-      let b = must-pass (λ b. b) false refl (blank (madeAtWord words - (slotsAt words + 4 * w .at)) (drop (slotsAt words + 4 * w .at) words)) _ h in
+      let made-from : ℕ = madeAtWord words in
+      let unused-from : ℕ = madeAtWord words + 3 * length made in
       let within : c ≤ n + 2 = total-within (k .all-fit) in
-      let z : madeAtWord words - (slotsAt words + 4 * c) ≡ 4 * (n + 2 - c) = omega arith in
-      let b₁ : blank (4 * (n + 2 - c)) (drop (slotsAt words + 4 * c) words) ≡ true = rw z at (rw (k .counts .at-is) at (b .passes)) in
-      let b₂ : blank (3 * (n - length made)) (drop (madeAtWord words + 3 * length made) words) ≡ true = rw m-is (b .good) in
-      assembled words (k .chunks) made (omega arith) low (k .count-is) m-is within l (k .table-is) (k .slots-are)
-      (blank-reads (4 * (n + 2 - c)) (drop (slotsAt words + 4 * c) words) (omega (arith, length-drop (slotsAt words + 4 * c) words)) b₁)
-      (rw m-is q)
-      (blank-reads (3 * (n - length made)) (drop (madeAtWord words + 3 * length made) words) (omega (arith, length-drop (madeAtWord words + 3 * length made) words)) b₂)
+      let b = both (blank (made-from - (slotsAt words + 4 * w .at)) (slotsFrom words (w .at))) _ h in
+      let z : made-from - (slotsAt words + 4 * c) ≡ 4 * (n + 2 - c) = omega arith in
+      let b₁ : blank (4 * (n + 2 - c)) (slotsFrom words c) ≡ true = rw z at (rw (k .counts .at-is) at (b .passes)) in
+      let b₂ : blank (3 * (n - length made)) (drop unused-from words) ≡ true = rw m-is (b .good) in
+      let r₁ = blank-reads (4 * (n + 2 - c)) (slotsFrom words c) (omega (arith, length-drop (slotsAt words + 4 * c) words)) b₁ in
+      let r₂ = blank-reads (3 * (n - length made)) (drop unused-from words) (omega (arith, length-drop unused-from words)) b₂ in
+      assembled words (k .chunks) made (omega arith) low (k .count-is) m-is (k .table-is) (k .slots-are)
+      (held-at words (slotsAt words + 4 * c) (4 * (n + 2 - c)) made-from (zeros (4 * (n + 2 - c))) r₁ (omega arith))
+      (held-at words made-from (3 * length made) unused-from (reportWords made) q refl)
+      (held-at words unused-from (3 * (n - length made)) (need n (getD words 1 0)) (zeros (3 * (n - length made))) r₂ (omega arith))
 
   -- .. that keeps the rules
   kept-of : words ≡ encode (getD words 0 0) (stateOf words (k .chunks) made) ++ after words (k .chunks) made
@@ -252,14 +204,14 @@ module _ (t N : ℕ) (words : List ℕ) (i : InRanges words) (k : Chunked t N wo
 pub shape-state : (t N : ℕ) (words : List ℕ) → t < 256 → getD words 2 0 < 65536 → areaInShape t N words ≡ true → Stated t N words
 unfolding areaInShape
 shape-state t N words few low h =
-    let p = must-pass (λ b. b) false refl (ruleC words) _ h in
+    let p = both (ruleC words) _ h in
     let i = in-ranges words (p .passes) in
     let w : Walk = walkOf t N words in
     let r = each-of (w .ok ∷ firstFits words ∷ endFits words w ∷ ruleI words w ∷ ruleJ words w ∷ ruleK words w ∷ []) (p .good) in
     let k = chunked t N words few i (r .0) in
     let few-made : getD words 4 0 + w .terminals ≤ getD words 0 0 = leb-true _ _ (r .1 .1 .1 .0) in
     let m = threes (getD words 4 0) (drop (madeAtWord words) words) (omega (arith, length-drop (madeAtWord words) words, i .long)) in
-    let is = words-of t N words i k (m .made) (m .count-is) low (omega (arith, m .count-is)) (m .words-are) (r .1 .1 .1 .1 .1 .0) in
+    let is = words-of t N words i k (m .made) (m .count-is) low (omega (arith, m .count-is)) (rw (m .count-is) (m .words-are)) (r .1 .1 .1 .1 .1 .0) in
     record {
       state = stateOf words (k .chunks) (m .made);
       holds-state = record {

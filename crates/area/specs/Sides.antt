@@ -1,6 +1,7 @@
 -- Rule (f) for one side of a chunk: a scan of its slots passes exactly where they hold whole blocks of symbols, each standing on its
 -- slots; it counts those symbols, their terminals and their marks.
 -- Document 01, 15 BAD STATE; docs/AREA.md, rules (f) and (g).
+-- t, N: how many terminals and nonterminals the grammar has; n: how many tokens the row has.
 -- Rests on Blocks.
 --
 -- Main definitions: risingWords, Placed, Scanned, Holds. Main statements: scan-passes, scan-reads.
@@ -82,14 +83,25 @@ sums few (no-more q) st o i = record { ok-then = o; within-then = i; symbols-the
 sums {t} {N} few (then-stands {x = x} {entries = entries} h p) st o i =
     let r = sums few p (passedOver st x) refl refl in
     let k = terminal-count t N few x (h .ranged) entries in
-    record { ok-then = r .ok-then; within-then = r .within-then; symbols-then = omega (arith, r .symbols-then); terminals-then = omega (arith, r .terminals-then); marks-then = omega (arith, r .marks-then) }
+    record {
+      ok-then = r .ok-then;
+      within-then = r .within-then;
+      symbols-then = omega (arith, r .symbols-then);
+      terminals-then = omega (arith, r .terminals-then);
+      marks-then = omega (arith, r .marks-then);
+    }
 
 pub scan-passes : {t N n slot e : ℕ} {entries : List (Entry Span)} → t < 256 → Placed t N n slot entries e → (words : List ℕ)
     → Scanned entries (scanned t N n (stackSize entries) slot (risingWords entries ++ words) freshScan)
 scan-passes {entries = entries} few p words =
     let r = sums few p freshScan refl refl in
     rw (scan-entries few p freshScan words refl refl)
-    (record { fits = rw (r .ok-then, r .within-then); symbols-are = omega (arith, r .symbols-then); terminals-are = omega (arith, r .terminals-then); marks-are = omega (arith, r .marks-then) })
+    (record {
+      fits = rw (r .ok-then, r .within-then);
+      symbols-are = omega (arith, r .symbols-then);
+      terminals-are = omega (arith, r .terminals-then);
+      marks-are = omega (arith, r .marks-then);
+    })
 
 -- ---- a scan that passes has read entries in place
 
@@ -122,7 +134,8 @@ read-start {t} {N} {n} {slot} count s m l b words st st′ o i g u v h x r =
     record {
       ok-now = o;
       entries = x .entry ∷ r .entries;
-      words-are = rw (four-more count s m l b words, r .words-are, u, v, i, block-slots (markWord (x .entry)) (unmarked (x .entry)), x .word-is, x .mark-is, k, z, g);
+      words-are =
+          rw (four-more count s m l b words, r .words-are, u, v, i, block-slots (markWord (x .entry)) (unmarked (x .entry)), x .word-is, x .mark-is, k, z, g);
       placed = rw there (then-stands {e = slot + suc count} (x .stands) (placed-at (omega (arith, x .size-is)) (omega arith) (r .placed)));
     }
 
@@ -154,11 +167,12 @@ read-all {t} {N} {n} (suc count) slot (s ∷ m ∷ l ∷ b ∷ words) st h e =
 -- the slots of a side, as entries in place
 pub record Holds (t N n from to : ℕ) (words : List ℕ) : Type 0 where
   pub entries : List (Entry Span)
-  pub words-are : take (4 * (to - from)) words ≡ risingWords entries
+  pub words-are : take (4 * stackSize entries) words ≡ risingWords entries
   pub placed : Placed t N n from entries to
 
 pub scan-reads : {t N n : ℕ} (from to : ℕ) (words : List ℕ) → from ≤ to → 4 * (to - from) ≤ length words
     → sideFits (scanned t N n (to - from) from words freshScan) ≡ true → Holds t N n from to words
 scan-reads from to words h l e =
     let r = read-all (to - from) from words freshScan l e in
-    record { entries = r .entries; words-are = r .words-are; placed = placed-at (omega arith) (omega arith) (r .placed) }
+    let k : stackSize (r .entries) ≡ to - from = omega (arith, placed-end (r .placed)) in
+    record { entries = r .entries; words-are = rw k (r .words-are); placed = placed-at (omega arith) (omega arith) (r .placed) }

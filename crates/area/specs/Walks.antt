@@ -1,6 +1,7 @@
 -- Rules (d) to (h) for the table of chunks: a walk of the table passes exactly where it is the table of chunks whose sides stand on
 -- their slots; it counts live chunks, those not stuck, symbols and terminals as the machine does.
 -- Document 01, 15 BAD STATE; docs/AREA.md, rules (d) to (h).
+-- t, N: how many terminals and nonterminals the grammar has; n: how many tokens the row has.
 -- Rests on Sides and Rising.
 --
 -- Main definitions: Fits, AllFit, walkedAll, Counted. Main statements: walk-passes, counted-all, walk-reads.
@@ -8,7 +9,7 @@ use mathlib.Core.Path.{_≡_, refl, sym, ap, _∙_}
 use mathlib.Core.Bool.{true, false}
 use mathlib.Core.List.{List, [], _∷_, _++_, append-assoc, map, reverse}
 use mathlib.Core.Option.{Option, none, some}
-use Prim.Native.Nat.{ℕ, _+_, _*_, _-_, _≤_, _<_}
+use Prim.Native.Nat.{ℕ, _+_, _-_, _≤_, _<_}
 use native.Mathlib.Nat.{add-zero}
 use native.Mathlib.Omega.{arith}
 use lib.Dec.{eqb, ltb}
@@ -25,9 +26,10 @@ use Rattle.machine.specs.RunsEnd.{terminalsOn, terminalsUnread}
 use Rattle.machine.specs.Bounded.{oneIfRunning, unreadIn, symbolsIn, terminalsIn, runningIn}
 use Rattle.area.specs.declared.shape.Scan.{Scan}
 use Rattle.area.specs.declared.shape.Walk.{Walk}
-use Rattle.area.specs.Layout.{stackSize, stackWords, marks, unreadSize, unreadWords, chunkSize, chunkWords, statusWord, row, total, rows, slots, slotsAt}
+use Rattle.area.specs.Layout.{stackSize, stackWords, marks, unreadSize, unreadWords, chunkSize, chunkWords, statusWord, row, total, rows, slots}
 use Rattle.area.specs.Kept.{StuckFine, not-stuck, stuck-fine}
 use Rattle.area.specs.Lengths.{length-stack, length-chunk, length-row}
+use Rattle.area.specs.Encoded.{slotsFrom, slots-past}
 use Rattle.area.specs.Shape.{side, statusFits, boundsFit, stuckFits, sidesFit, counted, lineOf, walked}
 use Rattle.area.specs.Sides.{risingWords, Placed, placed-end, Scanned, scan-passes}
 use Rattle.area.specs.Rising.{rising-stack, plain, plain-unread}
@@ -108,8 +110,8 @@ stuck-fits c h e q (stuck-fine u k) = go (c .status) k
     go (stuck notAxiom) k = rw more
     go (stuck sideBySide) k = rw more
 
-sides-fit : {s u : Scan} (c : Chunk Span) (h e : ℕ) → Scanned (reverse (c .stack)) s → Scanned (map plain (c .unread)) u → h + unreadSize (c .unread) ≡ e → StuckFine c
-    → sidesFit s u (statusWord (c .status)) h e (marks (c .stack)) ≡ true
+sides-fit : {s u : Scan} (c : Chunk Span) (h e : ℕ) → Scanned (reverse (c .stack)) s → Scanned (map plain (c .unread)) u → h + unreadSize (c .unread) ≡ e
+    → StuckFine c → sidesFit s u (statusWord (c .status)) h e (marks (c .stack)) ≡ true
 sides-fit {s} {u} c h e ps pu q f =
     rw (
       ps .fits,
@@ -119,23 +121,30 @@ sides-fit {s} {u} c h e ps pu q f =
       stuck-fits c h e q f,
     )
 
-counted-is : {s u : Scan} (w : Walk) (c : Chunk Span) (e : ℕ) → Scanned (reverse (c .stack)) s → Scanned (map plain (c .unread)) u → e ≡ w .at + chunkSize (some c)
-    → counted w s u (statusWord (c .status)) e ≡ walkedOver w c
+counted-is : {s u : Scan} (w : Walk) (c : Chunk Span) (e : ℕ) → Scanned (reverse (c .stack)) s → Scanned (map plain (c .unread)) u
+    → e ≡ w .at + chunkSize (some c) → counted w s u (statusWord (c .status)) e ≡ walkedOver w c
 counted-is w c e ps pu q =
     let r = rising-stack (c .stack) in
     let p = plain-unread (c .unread) in
-    rw (q, status-runs (c .status), ps .symbols-are ∙ r .length-is, pu .symbols-are ∙ p .length-is, ps .terminals-are ∙ r .terminals-are, pu .terminals-are ∙ p .terminals-are)
+    rw (
+      q,
+      status-runs (c .status),
+      ps .symbols-are ∙ r .length-is,
+      pu .symbols-are ∙ p .length-is,
+      ps .terminals-are ∙ r .terminals-are,
+      pu .terminals-are ∙ p .terminals-are,
+    )
 
 module _ (t N n : ℕ) (few : t < 256) (area : List ℕ) (n-is : getD area 0 0 ≡ n) where
   pub side-passes : {from to : ℕ} (entries : List (Entry Span)) (words : List ℕ) → Placed t N n from entries to
-      → drop (slotsAt area + 4 * from) area ≡ risingWords entries ++ words → Scanned entries (side t N area from to)
+      → slotsFrom area from ≡ risingWords entries ++ words → Scanned entries (side t N area from to)
   unfolding side
   side-passes {from} {to} entries words p d =
       let e : to - from ≡ stackSize entries = omega (arith, placed-end p) in
       rw (n-is, e, d) (scan-passes few p words)
 
   line-passes : (w : Walk) (from : ℕ) (c : Chunk Span) (words : List ℕ) → w .ok ≡ true → w .at ≡ from → Fits t N n from c → from + chunkSize (some c) ≤ n + 2
-      → drop (slotsAt area + 4 * from) area ≡ stackWords (c .stack) ++ (unreadWords (c .unread) ++ words)
+      → slotsFrom area from ≡ stackWords (c .stack) ++ (unreadWords (c .unread) ++ words)
       → lineOf t N area w (statusWord (c .status)) from (from + stackSize (c .stack)) (from + chunkSize (some c)) (marks (c .stack)) ≡ walkedOver w c
   unfolding lineOf
   line-passes w from c words o q f l d =
@@ -143,11 +152,11 @@ module _ (t N n : ℕ) (few : t < 256) (area : List ℕ) (n-is : getD area 0 0 �
       let end : ℕ = from + chunkSize (some c) in
       let r = rising-stack (c .stack) in
       let p = plain-unread (c .unread) in
-      let d₂ : drop (slotsAt area + 4 * head) area ≡ unreadWords (c .unread) ++ words =
-      drop-past area (slotsAt area + 4 * from) (slotsAt area + 4 * head) (stackWords (c .stack)) (unreadWords (c .unread) ++ words) (omega (arith, length-stack (c .stack))) d in
+      let d₂ = slots-past area from (stackSize (c .stack)) (stackWords (c .stack)) (unreadWords (c .unread) ++ words) (length-stack (c .stack)) d in
       let s = side-passes (reverse (c .stack)) (unreadWords (c .unread) ++ words) (f .stack-stands) (rw (r .words-are) d) in
       let u = side-passes (map plain (c .unread)) words (f .unread-stands) (rw (p .words-are) d₂) in
-      let bounds : boundsFit (getD area 0 0) (w .at) from head end ≡ true = rw n-is (bounds-fit n (w .at) from head end q (f .begins) (omega arith) (omega arith) l) in
+      let bounds : boundsFit (getD area 0 0) (w .at) from head end ≡ true =
+      rw n-is (bounds-fit n (w .at) from head end q (f .begins) (omega arith) (omega arith) l) in
       let sides = sides-fit c head end s u (omega arith) (f .stuck-fine) in
       rw (o, status-word (c .status), status-fits (c .status), bounds, sides) (counted-is w c end s u (omega arith))
 
@@ -166,8 +175,8 @@ module _ (t N n : ℕ) (few : t < 256) (area : List ℕ) (n-is : getD area 0 0 �
   line-gone w o = rw o
 
   -- the table of chunks that fit, from word i on, and their slots
-  pub walk-passes : {from : ℕ} {chunks : List (Option (Chunk Span))} → AllFit t N n from chunks → (i : ℕ) (w : Walk) (after beyond : List ℕ) → w .ok ≡ true → w .at ≡ from
-      → from + total chunks ≤ n + 2 → drop i area ≡ rows from chunks ++ after → drop (slotsAt area + 4 * from) area ≡ slots chunks ++ beyond
+  pub walk-passes : {from : ℕ} {chunks : List (Option (Chunk Span))} → AllFit t N n from chunks → (i : ℕ) (w : Walk) (after beyond : List ℕ)
+      → w .ok ≡ true → w .at ≡ from → from + total chunks ≤ n + 2 → drop i area ≡ rows from chunks ++ after → slotsFrom area from ≡ slots chunks ++ beyond
       → walked t N area (length chunks) i w ≡ walkedAll w chunks
   walk-passes no-more-fit i w after beyond o q l d b = refl
   walk-passes {from} (gone-fits {chunks = chunks} f) i w after beyond o q l d b =
@@ -178,12 +187,11 @@ module _ (t N n : ℕ) (few : t < 256) (area : List ℕ) (n-is : getD area 0 0 �
   walk-passes {from} (live-fits {c = c} {chunks = chunks} f fs) i w after beyond o q l d b =
       let e : ℕ = from + chunkSize (some c) in
       let d₂ : drop (i + 5) area ≡ rows e chunks ++ after = drop-past area i (i + 5) (row from (some c)) (rows e chunks ++ after) refl d in
-      let b₁ : drop (slotsAt area + 4 * from) area ≡ stackWords (c .stack) ++ (unreadWords (c .unread) ++ (slots chunks ++ beyond)) = b ∙ simp append-assoc in
-      let b₂ : drop (slotsAt area + 4 * e) area ≡ slots chunks ++ beyond =
-      drop-past area (slotsAt area + 4 * from) (slotsAt area + 4 * e) (chunkWords (some c)) (slots chunks ++ beyond) (omega (arith, length-chunk (some c)))
-      (b ∙ append-assoc (chunkWords (some c)) (slots chunks) beyond) in
+      let b₁ : slotsFrom area from ≡ chunkWords (some c) ++ (slots chunks ++ beyond) = b ∙ append-assoc (chunkWords (some c)) (slots chunks) beyond in
+      let b₂ = slots-past area from (chunkSize (some c)) (chunkWords (some c)) (slots chunks ++ beyond) (length-chunk (some c)) b₁ in
+      let b₃ = b₁ ∙ append-assoc (stackWords (c .stack)) (unreadWords (c .unread)) (slots chunks ++ beyond) in
       ap (λ v. walked t N area (length chunks) (i + 5) v)
-      (row-read i from (some c) (rows e chunks ++ after) w d ∙ line-passes w from c (slots chunks ++ beyond) o q f (omega arith) b₁)
+      (row-read i from (some c) (rows e chunks ++ after) w d ∙ line-passes w from c (slots chunks ++ beyond) o q f (omega arith) b₃)
       ∙ walk-passes fs (i + 5) (walkedOver w c) after beyond refl (ap (λ k. k + chunkSize (some c)) q) (omega arith) d₂ b₂
 
 -- ---- what the walk has counted

@@ -1,6 +1,7 @@
 -- Rules (d) to (h), the other way: a table that the walk lets pass is the table of some chunks that fit, and the slots that it cuts are
 -- theirs.
 -- Document 01, 15 BAD STATE; docs/AREA.md, rules (d) to (h).
+-- t, N: how many terminals and nonterminals the grammar has; n: how many tokens the row has.
 -- Rests on Walks.
 --
 -- Main definitions: ReadChunks. Main statement: walk-reads.
@@ -17,14 +18,16 @@ use lib.ListN.{length, getD, take, drop, take-append-drop, length-drop}
 use lib.Seq.{drop-drop, take-add, drop-cons}
 use Rattle.laws.specs.Tests.{eqb-true, ltb-true, ltb-false, leb-true}
 use Rattle.laws.specs.Picks.{pick, each-of}
-use Rattle.laws.specs.Passed.{must-pass}
+use Rattle.laws.specs.Passed.{must-pass, both}
 use Rattle.language.specs.Trees.{Span}
 use Rattle.machine.specs.Entries.{Unread, Entry, unmarked}
 use Rattle.machine.specs.Moves.{noRelation, noRule, notAxiom, sideBySide}
 use Rattle.machine.specs.Chunks.{Status, running, stuck, Chunk}
+use Rattle.area.specs.declared.shape.Scan.{Scan}
 use Rattle.area.specs.declared.shape.Walk.{Walk}
 use Rattle.area.specs.Layout.{stackSize, stackWords, marks, unreadSize, unreadWords, chunkSize, chunkWords, statusWord, row, total, rows, slots, slotsAt}
 use Rattle.area.specs.Kept.{StuckFine, not-stuck, stuck-fine}
+use Rattle.area.specs.Encoded.{slotsFrom}
 use Rattle.area.specs.Shape.{side, sideFits, statusFits, goneFits, boundsFit, stuckFits, sidesFit, fallen, counted, liveLine, lineOf, walked}
 use Rattle.area.specs.Sides.{risingWords, placed-end, placed-at, Scanned, Holds, scan-reads}
 use Rattle.area.specs.Rising.{rising-stack, plain-unread, plain-of}
@@ -93,13 +96,13 @@ stuck-fine-of c h e q = go (c .status) refl
 
     -- stuck, and not with 18
     other : pick (ltb h e) true false ≡ true → (c .status ≡ stuck noRule → _≡_ {A = ℕ} 0 1) → StuckFine c
-    other k z = stuck-fine (some (must-pass (λ b. b) false refl (ltb h e) true k .passes)) (λ r. absurd (omega (arith, z r)))
+    other k z = stuck-fine (some (both (ltb h e) true k .passes)) (λ r. absurd (omega (arith, z r)))
 
     go : (s : Status) → c .status ≡ s → stuckFits (statusWord s) h e (marks (c .stack)) ≡ true → StuckFine c
     go running r k = not-stuck r
     go (stuck noRelation) r k = other k (λ z. cc)
     go (stuck noRule) r k =
-        let p = must-pass (λ b. b) false refl (ltb h e) _ k in
+        let p = both (ltb h e) (leb 1 (marks (c .stack))) k in
         stuck-fine (some (p .passes)) (λ z. leb-true 1 (marks (c .stack)) (p .good))
     go (stuck notAxiom) r k = other k (λ z. cc)
     go (stuck sideBySide) r k = other k (λ z. cc)
@@ -108,9 +111,16 @@ stuck-fine-of c h e q = go (c .status) refl
 record LiveChunk (t N n : ℕ) (area : List ℕ) (from x f h e y : ℕ) : Type 0 where
   chunk : Chunk Span
   row-is : x ∷ f ∷ h ∷ e ∷ y ∷ [] ≡ row from (some chunk)
-  words-are : take (4 * chunkSize (some chunk)) (drop (slotsAt area + 4 * from) area) ≡ chunkWords (some chunk)
+  words-are : take (4 * chunkSize (some chunk)) (slotsFrom area from) ≡ chunkWords (some chunk)
   end-is : e ≡ from + chunkSize (some chunk)
   fits : Fits t N n from chunk
+
+-- the words of k slots, and of l slots after them
+two-parts : (area : List ℕ) (s k l : ℕ) → take (4 * (k + l)) (slotsFrom area s) ≡ take (4 * k) (slotsFrom area s) ++ take (4 * l) (slotsFrom area (s + k))
+two-parts area s k l =
+    let parts : 4 * (k + l) ≡ 4 * k + 4 * l = omega arith in
+    let next : slotsAt area + 4 * s + 4 * k ≡ slotsAt area + 4 * (s + k) = omega arith in
+    rw (parts, take-add (4 * k) (4 * l) (slotsFrom area s), drop-drop (4 * k) (slotsAt area + 4 * s) area, next)
 
 -- a side's entries as a stack, and as unread symbols
 record AsStack (entries : List (Entry Span)) : Type 0 where
@@ -121,7 +131,11 @@ record AsStack (entries : List (Entry Span)) : Type 0 where
 as-stack : (entries : List (Entry Span)) → AsStack entries
 as-stack entries =
     let r = rising-stack entries in
-    record { words-are = sym (rising-stack (reverse entries) .words-are) ∙ ap risingWords (reverse-reverse entries); size-is = r .size-is; marks-are = r .marks-are }
+    record {
+      words-are = sym (rising-stack (reverse entries) .words-are) ∙ ap risingWords (reverse-reverse entries);
+      size-is = r .size-is;
+      marks-are = r .marks-are;
+    }
 
 record AsUnread (entries : List (Entry Span)) : Type 0 where
   words-are : unreadWords (map unmarked entries) ≡ risingWords entries
@@ -133,14 +147,14 @@ as-unread entries h =
     record { words-are = sym (r .words-are) ∙ ap risingWords (plain-of entries h); size-is = sym (r .size-is) ∙ ap stackSize (plain-of entries h) }
 
 module _ (t N n : ℕ) (few : t < 256) (area : List ℕ) (n-is : getD area 0 0 ≡ n) (long : slotsAt area + 4 * (n + 2) ≤ length area) where
-  holds-scanned : {from to : ℕ} (s : Holds t N n from to (drop (slotsAt area + 4 * from) area)) → Scanned (s .entries) (side t N area from to)
+  holds-scanned : {from to : ℕ} (s : Holds t N n from to (slotsFrom area from)) → Scanned (s .entries) (side t N area from to)
   holds-scanned {from} {to} s =
-      let k : ℕ = 4 * (to - from) in
-      let words : List ℕ = drop (slotsAt area + 4 * from) area in
+      let k : ℕ = 4 * stackSize (s .entries) in
+      let words : List ℕ = slotsFrom area from in
       side-passes t N n few area n-is (s .entries) (drop k words) (s .placed) (sym (take-append-drop k words) ∙ ap (λ l. l ++ drop k words) (s .words-are))
 
   live-chunk : (from x h e y : ℕ) → SomeStatus x → from ≤ n + 1 → from ≤ h → h ≤ e
-      → (s : Holds t N n from h (drop (slotsAt area + 4 * from) area)) (u : Holds t N n h e (drop (slotsAt area + 4 * h) area))
+      → (s : Holds t N n from h (slotsFrom area from)) (u : Holds t N n h e (slotsFrom area h))
       → y ≡ marks (s .entries) → marks (u .entries) ≡ 0 → stuckFits x h e y ≡ true → LiveChunk t N n area from x from h e y
   live-chunk from x h e y st low p q s u m z k =
       let a = as-stack (s .entries) in
@@ -151,12 +165,13 @@ module _ (t N n : ℕ) (few : t < 256) (area : List ℕ) (n-is : getD area 0 0 �
       let h-is : h ≡ from + stackSize stack = omega (arith, placed-end (s .placed), a .size-is) in
       let e-is : e ≡ from + (stackSize stack + unreadSize unread) = omega (arith, placed-end (u .placed), b .size-is) in
       let y-is : y ≡ marks stack = m ∙ sym (a .marks-are) in
-      let parts : 4 * (stackSize stack + unreadSize unread) ≡ 4 * (h - from) + 4 * (e - h) = omega arith in
-      let next : slotsAt area + 4 * from + 4 * (h - from) ≡ slotsAt area + 4 * h = omega arith in
+      let stack-words : take (4 * stackSize stack) (slotsFrom area from) ≡ stackWords stack = rw (a .size-is) (s .words-are ∙ sym (a .words-are)) in
+      let unread-words : take (4 * unreadSize unread) (slotsFrom area (from + stackSize stack)) ≡ unreadWords unread =
+      rw (b .size-is, ← h-is) (u .words-are ∙ sym (b .words-are)) in
       record {
         chunk = c;
         row-is = λ j. sym (st .word-is) j ∷ from ∷ h-is j ∷ e-is j ∷ y-is j ∷ [];
-        words-are = rw (parts, take-add (4 * (h - from)) (4 * (e - h)) (drop (slotsAt area + 4 * from) area), drop-drop (4 * (h - from)) (slotsAt area + 4 * from) area, next, s .words-are, u .words-are, a .words-are, b .words-are);
+        words-are = two-parts area from (stackSize stack) (unreadSize unread) ∙ ap₂ (λ p l. p ++ l) stack-words unread-words;
         end-is = e-is;
         fits = record {
           begins = low;
@@ -166,26 +181,29 @@ module _ (t N n : ℕ) (few : t < 256) (area : List ℕ) (n-is : getD area 0 0 �
         };
       }
 
-  side-reads : (from to : ℕ) → from ≤ to → to ≤ n + 2 → sideFits (side t N area from to) ≡ true → Holds t N n from to (drop (slotsAt area + 4 * from) area)
+  side-reads : (from to : ℕ) → from ≤ to → to ≤ n + 2 → sideFits (side t N area from to) ≡ true → Holds t N n from to (slotsFrom area from)
   unfolding side
   side-reads from to h l e =
-      scan-reads from to (drop (slotsAt area + 4 * from) area) h (omega (arith, length-drop (slotsAt area + 4 * from) area)) (rw n-is at e)
+      scan-reads from to (slotsFrom area from) h (omega (arith, length-drop (slotsAt area + 4 * from) area)) (rw n-is at e)
 
   -- .. from the tests of its row
   live-read : (from x f h e y : ℕ) → statusFits x ≡ true → boundsFit (getD area 0 0) from f h e ≡ true
       → sidesFit (side t N area f h) (side t N area h e) x h e y ≡ true → LiveChunk t N n area from x f h e y
   live-read from x f h e y i b k =
       let bs = each-of (eqb f from ∷ leb f (getD area 0 0 + 1) ∷ leb f h ∷ leb h e ∷ leb e (getD area 0 0 + 2) ∷ []) b in
-      let ks = each-of (sideFits (side t N area f h) ∷ sideFits (side t N area h e) ∷ eqb (side t N area h e .marks) 0 ∷ eqb y (side t N area f h .marks) ∷ stuckFits x h e y ∷ []) k in
+      let below : Scan = side t N area f h in
+      let above : Scan = side t N area h e in
+      let ks = each-of (sideFits below ∷ sideFits above ∷ eqb (above .marks) 0 ∷ eqb y (below .marks) ∷ stuckFits x h e y ∷ []) k in
       let low : f ≤ n + 1 = rw n-is at (leb-true f (getD area 0 0 + 1) (bs .1 .0)) in
       let p : f ≤ h = leb-true f h (bs .1 .1 .0) in
       let q : h ≤ e = leb-true h e (bs .1 .1 .1 .0) in
       let last : e ≤ n + 2 = rw n-is at (leb-true e (getD area 0 0 + 2) (bs .1 .1 .1 .1 .0)) in
       let s = side-reads f h p (omega arith) (ks .0) in
       let u = side-reads h e q last (ks .1 .0) in
-      let y-is = eqb-true y (side t N area f h .marks) (ks .1 .1 .1 .0) ∙ holds-scanned s .marks-are in
-      let none-marked = sym (holds-scanned u .marks-are) ∙ eqb-true (side t N area h e .marks) 0 (ks .1 .1 .0) in
-      subst (λ v. LiveChunk t N n area v x f h e y) (eqb-true f from (bs .0)) (live-chunk f x h e y (status-of x i) low p q s u y-is none-marked (ks .1 .1 .1 .1 .0))
+      let y-is = eqb-true y (below .marks) (ks .1 .1 .1 .0) ∙ holds-scanned s .marks-are in
+      let none-marked = sym (holds-scanned u .marks-are) ∙ eqb-true (above .marks) 0 (ks .1 .1 .0) in
+      subst (λ v. LiveChunk t N n area v x f h e y) (eqb-true f from (bs .0))
+      (live-chunk f x h e y (status-of x i) low p q s u y-is none-marked (ks .1 .1 .1 .1 .0))
 
 -- ---- the table
 
@@ -195,7 +213,7 @@ pub record ReadChunks (t N n : ℕ) (area : List ℕ) (count i : ℕ) (w : Walk)
   pub chunks : List (Option (Chunk Span))
   pub count-is : length chunks ≡ count
   pub table-is : take (5 * count) (drop i area) ≡ rows (w .at) chunks
-  pub slots-are : take (4 * total chunks) (drop (slotsAt area + 4 * w .at) area) ≡ slots chunks
+  pub slots-are : take (4 * total chunks) (slotsFrom area (w .at)) ≡ slots chunks
   pub all-fit : AllFit t N n (w .at) chunks
 
 five-more : (count i : ℕ) (area : List ℕ) → i + 5 ≤ length area
@@ -203,7 +221,11 @@ five-more : (count i : ℕ) (area : List ℕ) → i + 5 ≤ length area
     ≡ (getD area i 0 ∷ getD area (i + 1) 0 ∷ getD area (i + 2) 0 ∷ getD area (i + 3) 0 ∷ getD area (i + 4) 0 ∷ []) ++ take (5 * count) (drop (i + 5) area)
 five-more count i area h =
     let e : 5 * suc count ≡ suc (suc (suc (suc (suc (5 * count))))) = omega arith in
-    rw (e, add-one, add-two, add-three, add-four, add-five, drop-cons area i 0 (omega arith), drop-cons area (suc i) 0 (omega arith), drop-cons area (suc (suc i)) 0 (omega arith), drop-cons area (suc (suc (suc i))) 0 (omega arith), drop-cons area (suc (suc (suc (suc i)))) 0 (omega arith))
+    let d : (j : ℕ) → j < length area → drop j area ≡ getD area j 0 ∷ drop (suc j) area = λ j. drop-cons area j 0 in
+    let d₃ = d (suc (suc i)) (omega arith) in
+    let d₄ = d (suc (suc (suc i))) (omega arith) in
+    let d₅ = d (suc (suc (suc (suc i)))) (omega arith) in
+    rw (e, add-one, add-two, add-three, add-four, add-five, d i (omega arith), d (suc i) (omega arith), d₃, d₄, d₅)
 
 module _ (t N n : ℕ) (few : t < 256) (area : List ℕ) (n-is : getD area 0 0 ≡ n) (long : slotsAt area + 4 * (n + 2) ≤ length area) where
   -- one row more in front: a number that is gone
@@ -216,7 +238,8 @@ module _ (t N n : ℕ) (few : t < 256) (area : List ℕ) (n-is : getD area 0 0 �
         ok-now = o;
         chunks = none ∷ r .chunks;
         count-is = ap suc (r .count-is);
-        table-is = rw (d, z, eqb-true f 0 (gs .0), eqb-true h 0 (gs .1 .0), eqb-true e 0 (gs .1 .1 .0), eqb-true y 0 (gs .1 .1 .1 .0), r .table-is, add-zero (w .at));
+        table-is =
+            rw (d, z, eqb-true f 0 (gs .0), eqb-true h 0 (gs .1 .0), eqb-true e 0 (gs .1 .1 .0), eqb-true y 0 (gs .1 .1 .1 .0), r .table-is, add-zero (w .at));
         slots-are = rw (zero-add (total (r .chunks))) (r .slots-are);
         all-fit = gone-fits (r .all-fit);
       }
@@ -229,14 +252,13 @@ module _ (t N n : ℕ) (few : t < 256) (area : List ℕ) (n-is : getD area 0 0 �
       let a : ℕ = chunkSize (some (k .chunk)) in
       let b : ℕ = total (r .chunks) in
       let at-is : w₁ .at ≡ w .at + a = q ∙ k .end-is in
-      let parts : 4 * (a + b) ≡ 4 * a + 4 * b = omega arith in
-      let next : slotsAt area + 4 * w .at + 4 * a ≡ slotsAt area + 4 * w₁ .at = omega arith in
+      let rest : take (4 * b) (slotsFrom area (w .at + a)) ≡ slots (r .chunks) = rw at-is at (r .slots-are) in
       record {
         ok-now = o;
         chunks = some (k .chunk) ∷ r .chunks;
         count-is = ap suc (r .count-is);
         table-is = d ∙ ap₂ (λ p l. p ++ l) (k .row-is) (r .table-is ∙ ap (λ j. rows j (r .chunks)) at-is);
-        slots-are = rw (parts, take-add (4 * a) (4 * b) (drop (slotsAt area + 4 * w .at) area), drop-drop (4 * a) (slotsAt area + 4 * w .at) area, next) (ap₂ (λ p l. p ++ l) (k .words-are) (r .slots-are));
+        slots-are = two-parts area (w .at) a b ∙ ap₂ (λ p l. p ++ l) (k .words-are) rest;
         all-fit = live-fits (k .fits) (rw at-is at (r .all-fit));
       }
 
@@ -251,6 +273,6 @@ module _ (t N n : ℕ) (few : t < 256) (area : List ℕ) (n-is : getD area 0 0 �
   pub walk-reads : (count i : ℕ) (w : Walk) → i + 5 * count ≤ length area → walked t N area count i w .ok ≡ true → ReadChunks t N n area count i w
   walk-reads zero i w l h = record { ok-now = h; chunks = []; count-is = refl; table-is = refl; slots-are = refl; all-fit = no-more-fit }
   walk-reads (suc count) i w l h =
-      let r = walk-reads count (i + 5) (lineOf t N area w (getD area i 0) (getD area (i + 1) 0) (getD area (i + 2) 0) (getD area (i + 3) 0) (getD area (i + 4) 0)) (omega arith) h in
-      read-more count i (line-view t N area w (getD area i 0) (getD area (i + 1) 0) (getD area (i + 2) 0) (getD area (i + 3) 0) (getD area (i + 4) 0) (r .ok-now))
-      (five-more count i area (omega arith)) r
+      let x : ℕ → ℕ = λ k. getD area (i + k) 0 in
+      let r = walk-reads count (i + 5) (lineOf t N area w (getD area i 0) (x 1) (x 2) (x 3) (x 4)) (omega arith) h in
+      read-more count i (line-view t N area w (getD area i 0) (x 1) (x 2) (x 3) (x 4) (r .ok-now)) (five-more count i area (omega arith)) r

@@ -1,4 +1,17 @@
 // The shape rules of docs/AREA.md, checked in one pass over the lent words and bytes.
+// Each function is one definition of specs/Shape.antt, of which its contract is the equation.
+ghost use mathlib.Core.Path.{_≡_};
+ghost use Prim.Native.Nat.{ℕ, _+_, _*_, _-_, _≤_, _<_, _^_, pred};
+ghost use lib.Dec.{eqb};
+ghost use lib.ListN.{length, getD, drop};
+ghost use Rattle.laws.specs.Picks.{pick};
+ghost use Rattle.machine.specs.Bounded.{mostMoves};
+ghost use Rattle.area.specs.Layout.{need, slotsAt, madeAtWord};
+ghost use Rattle.area.specs.Shape.{ruleC, symbolFits, placeFits, tag, oneIfTerminal, broken, opened, inner, scanSlot, side, sideFits};
+ghost use Rattle.area.specs.Shape.{statusFits, goneFits, boundsFit, stuckFits, sidesFit, fallen, counted, liveLine, lineOf, walkOf};
+ghost use Rattle.area.specs.Shape.{firstFits, endFits, ruleI, potentialOf, ruleJ, blank, ruleK, walkFits, areaInShape};
+ghost use Rattle.area.specs.Shape.{byteFits, ruleB};
+ghost use Rattle.area.specs.ShapeCode.{rowFits, Sized, Few, Within, Countable};
 
 // Where a scan of one side of a chunk stands: within a symbol of `size` slots, `within` of them to come; how many symbols,
 // terminals other than # and marks it has passed.
@@ -21,4 +34,661 @@ pub struct Walk {
     pub unread: u16,
     pub symbols: u16,
     pub terminals: u16,
+}
+
+// A word as an index, and as a summand.
+fn wide(x: u16) -> usize
+    ensures { λ r. ⌜ (r ≡ x) × (r < 65536) ⌝ }
+{
+    x as usize
+}
+
+fn long(x: u16) -> u64
+    ensures { λ r. ⌜ (r ≡ x) × (r < 65536) ⌝ }
+{
+    x as u64
+}
+
+// ---- (b) the matrix
+
+// A byte of the matrix, a over b, of a grammar with t terminals: 0 past t; # over # is 2; # over b is 0 or 1; a over # is 0 or 3;
+// any other 0 to 3.
+fn byte_fits(t: u16, a: u16, b: u16, x: u8) -> bool
+    ensures { λ r. ⌜ r ≡ byteFits t a b x ⌝ }
+{
+    if t < a {
+        return x == 0;
+    }
+    if t < b {
+        return x == 0;
+    }
+    if a == 0 {
+        if b == 0 {
+            return x == 2;
+        }
+        return x <= 1;
+    }
+    if b == 0 {
+        if x == 0 {
+            return true;
+        }
+        return x == 3;
+    }
+    x <= 3
+}
+
+// The bytes of a over every b.
+fn row_fits(matrix: &[u8], t: u16, a: u16) -> bool
+    requires { ⌜ (a < 64) × (4096 ≤ length (now matrix)) ⌝ }
+    ensures { λ r. ⌜ r ≡ rowFits t (now (matrix .entry)) a ⌝ }
+{
+    let mut at = 64 * wide(a);
+    let mut b = 0;
+    while b < 64 {
+        if !byte_fits(t, a, b, matrix[at]) {
+            return false;
+        }
+        at += 1;
+        b += 1;
+    }
+    true
+}
+
+// The matrix keeps the shape rules, of a grammar with t terminals.
+pub fn matrix_in_shape(matrix: &[u8], t: u16) -> bool
+    ensures { λ r. ⌜ r ≡ ruleB t (now (matrix .entry)) ⌝ }
+{
+    if matrix.len() < 4096 {
+        return false;
+    }
+    let mut a = 0;
+    while a < 64 {
+        if !row_fits(matrix, t, a) {
+            return false;
+        }
+        a += 1;
+    }
+    true
+}
+
+// ---- (c) the sizes
+
+// n in 1..16,384, C in 1..64, the area at least need(n, C) words.
+fn sized(area: &[u16]) -> bool
+    ensures { λ r. ⌜ r ≡ ruleC (now (area .entry)) ⌝ }
+{
+    let len = area.len();
+    if len < 13 {
+        return false;
+    }
+    let tokens = area[0];
+    let count = area[1];
+    if tokens < 1 {
+        return false;
+    }
+    if 16384 < tokens {
+        return false;
+    }
+    if count < 1 {
+        return false;
+    }
+    if 64 < count {
+        return false;
+    }
+    7 * wide(tokens) + 5 * wide(count) + 13 <= len
+}
+
+// ---- (f) one side of a chunk
+
+// Symbol and mark: # or a terminal to t; a nonterminal below n, unmarked; a mark is 0 or 1 and never on #.
+fn symbol_fits(t: u16, n: u16, s: u16, m: u16) -> bool
+    requires { ⌜ n ≤ 64 ⌝ }
+    ensures { λ r. ⌜ r ≡ symbolFits t n s m ⌝ }
+{
+    if m == 0 {
+        if s <= t {
+            return true;
+        }
+        if s < 256 {
+            return false;
+        }
+        return s < 256 + n;
+    }
+    if m == 1 {
+        if s == 0 {
+            return false;
+        }
+        return s <= t;
+    }
+    false
+}
+
+// Symbol s of l slots at this slot: # in slots 0 and n+1 and nowhere else, one slot long.
+fn place_fits(tokens: u16, slot: u16, s: u16, l: u16) -> bool
+    requires { ⌜ tokens ≤ 16384 ⌝ }
+    ensures { λ r. ⌜ r ≡ placeFits tokens slot s l ⌝ }
+{
+    if slot == 0 {
+        if s == 0 {
+            return l == 1;
+        }
+        return false;
+    }
+    if slot == tokens + 1 {
+        if s == 0 {
+            return l == 1;
+        }
+        return false;
+    }
+    if s == 0 {
+        return false;
+    }
+    wide(slot) + wide(l) <= wide(tokens) + 1
+}
+
+// The last word of a slot, k slots before the end of its symbol, which has l slots.
+fn tag_of(k: u16, l: u16) -> u16
+    ensures { λ r. ⌜ r ≡ tag k l ⌝ }
+{
+    if k == 0 { l } else { 0 }
+}
+
+// 1 for a terminal other than #.
+fn one_if_terminal(s: u16) -> u16
+    ensures { λ r. ⌜ (r ≡ oneIfTerminal s) × (r ≤ 1) ⌝ }
+{
+    if s == 0 {
+        return 0;
+    }
+    if s < 256 { 1 } else { 0 }
+}
+
+// A scan that has met a wrong word.
+fn break_off() -> Scan
+    ensures { λ r. ⌜ r ≡ broken ⌝ }
+{
+    Scan {
+        ok: false,
+        within: 0,
+        size: 0,
+        symbols: 0,
+        terminals: 0,
+        marks: 0,
+    }
+}
+
+// A slot at which a symbol starts: symbol s, mark m, l slots, last word b.
+fn open_symbol(
+    t: u16,
+    n: u16,
+    tokens: u16,
+    slot: u16,
+    st: Scan,
+    s: u16,
+    m: u16,
+    l: u16,
+    b: u16,
+) -> Scan
+    requires { ⌜ (n ≤ 64) × (tokens ≤ 16384) × Few 16386 st ⌝ }
+    ensures { λ r. ⌜ r ≡ opened t n tokens slot st s m l b ⌝ }
+{
+    if l == 0 {
+        return break_off();
+    }
+    if !symbol_fits(t, n, s, m) {
+        return break_off();
+    }
+    if !place_fits(tokens, slot, s, l) {
+        return break_off();
+    }
+    if b != tag_of(l - 1, l) {
+        return break_off();
+    }
+    let more = one_if_terminal(s);
+    Scan {
+        ok: true,
+        within: l - 1,
+        size: l,
+        symbols: st.symbols + 1,
+        terminals: st.terminals + more,
+        marks: st.marks + m,
+    }
+}
+
+// A slot inside a symbol: its words are 0, but for the last of the last slot.
+fn inside(st: Scan, s: u16, m: u16, l: u16, b: u16) -> Scan
+    requires { ⌜ 0 < st .within ⌝ }
+    ensures { λ r. ⌜ r ≡ inner st s m l b ⌝ }
+{
+    if s != 0 {
+        return break_off();
+    }
+    if m != 0 {
+        return break_off();
+    }
+    if l != 0 {
+        return break_off();
+    }
+    if b != tag_of(st.within - 1, st.size) {
+        return break_off();
+    }
+    Scan {
+        ok: true,
+        within: st.within - 1,
+        size: st.size,
+        symbols: st.symbols,
+        terminals: st.terminals,
+        marks: st.marks,
+    }
+}
+
+// One slot more.
+fn scan_slot(
+    t: u16,
+    n: u16,
+    tokens: u16,
+    slot: u16,
+    st: Scan,
+    s: u16,
+    m: u16,
+    l: u16,
+    b: u16,
+) -> Scan
+    requires { ⌜ (n ≤ 64) × (tokens ≤ 16384) × Few 16386 st ⌝ }
+    ensures { λ r. ⌜ r ≡ scanSlot t n tokens slot st s m l b ⌝ }
+{
+    if st.ok {
+        if st.within == 0 {
+            return open_symbol(t, n, tokens, slot, st, s, m, l, b);
+        }
+        return inside(st, s, m, l, b);
+    }
+    break_off()
+}
+
+// One side of a chunk: the slots from `from` up to `to`.
+fn side(area: &[u16], t: u16, n: u16, from: u16, to: u16) -> Scan
+    requires { ⌜ (n ≤ 64) × Sized (now area) × (to ≤ getD (now area) 0 0 + 2) ⌝ }
+    ensures { λ r. ⌜ r ≡ side t n (now (area .entry)) from to ⌝ }
+{
+    let tokens = area[0];
+    let base = 5 + 5 * wide(area[1]);
+    let mut st = Scan {
+        ok: true,
+        within: 0,
+        size: 0,
+        symbols: 0,
+        terminals: 0,
+        marks: 0,
+    };
+    let mut at = base + 4 * wide(from);
+    let mut slot = from;
+    while slot < to {
+        st = scan_slot(
+            t,
+            n,
+            tokens,
+            slot,
+            st,
+            area[at],
+            area[at + 1],
+            area[at + 2],
+            area[at + 3],
+        );
+        at += 4;
+        slot += 1;
+    }
+    st
+}
+
+// Whole symbols.
+fn side_fits(st: Scan) -> bool
+    ensures { λ r. ⌜ r ≡ sideFits st ⌝ }
+{
+    if st.ok {
+        return st.within == 0;
+    }
+    false
+}
+
+// ---- (d) to (h) of one chunk
+
+// (d) 1 running; 17 to 20 stuck so.
+fn status_fits(x: u16) -> bool
+    ensures { λ r. ⌜ r ≡ statusFits x ⌝ }
+{
+    if x == 1 {
+        return true;
+    }
+    if x < 17 {
+        return false;
+    }
+    x <= 20
+}
+
+// (d) A gone chunk's row is zeros.
+fn gone_fits(f: u16, h: u16, e: u16, y: u16) -> bool
+    ensures { λ r. ⌜ r ≡ goneFits f h e y ⌝ }
+{
+    if f != 0 {
+        return false;
+    }
+    if h != 0 {
+        return false;
+    }
+    if e != 0 {
+        return false;
+    }
+    y == 0
+}
+
+// (e) From is the end of the live chunk before it and at most n+1; from, head, end in order, the end at most n+2.
+fn bounds_fit(tokens: u16, at: u16, f: u16, h: u16, e: u16) -> bool
+    requires { ⌜ tokens ≤ 16384 ⌝ }
+    ensures { λ r. ⌜ r ≡ boundsFit tokens at f h e ⌝ }
+{
+    if f != at {
+        return false;
+    }
+    if tokens + 1 < f {
+        return false;
+    }
+    if h < f {
+        return false;
+    }
+    if e < h {
+        return false;
+    }
+    e <= tokens + 2
+}
+
+// (h) A stuck chunk has something unread, one stuck with 18 has a mark.
+fn stuck_fits(x: u16, h: u16, e: u16, y: u16) -> bool
+    ensures { λ r. ⌜ r ≡ stuckFits x h e y ⌝ }
+{
+    if x == 1 {
+        return true;
+    }
+    if h < e {
+        if x == 18 {
+            return 1 <= y;
+        }
+        return true;
+    }
+    false
+}
+
+// (f), (g) and (h) of a live chunk, from the scans of its stack and of its unread side.
+fn sides_fit(stack: Scan, unread: Scan, x: u16, h: u16, e: u16, y: u16) -> bool
+    ensures { λ r. ⌜ r ≡ sidesFit stack unread x h e y ⌝ }
+{
+    if !side_fits(stack) {
+        return false;
+    }
+    if !side_fits(unread) {
+        return false;
+    }
+    if unread.marks != 0 {
+        return false;
+    }
+    if y != stack.marks {
+        return false;
+    }
+    stuck_fits(x, h, e, y)
+}
+
+// A walk that has met a wrong row.
+fn fall() -> Walk
+    ensures { λ r. ⌜ r ≡ fallen ⌝ }
+{
+    Walk {
+        ok: false,
+        at: 0,
+        live: 0,
+        running: 0,
+        unread: 0,
+        symbols: 0,
+        terminals: 0,
+    }
+}
+
+// 1 for a chunk that is not stuck.
+fn one_if_running(x: u16) -> u16
+    ensures { λ r. ⌜ (r ≡ pick (eqb x 1) 1 0) × (r ≤ 1) ⌝ }
+{
+    if x == 1 { 1 } else { 0 }
+}
+
+// A live chunk's counts added.
+fn count_in(w: Walk, stack: Scan, unread: Scan, x: u16, e: u16) -> Walk
+    requires { ⌜ Countable 63 e w stack unread ⌝ }
+    ensures { λ r. ⌜ r ≡ counted w stack unread x e ⌝ }
+{
+    let more = one_if_running(x);
+    Walk {
+        ok: true,
+        at: e,
+        live: w.live + 1,
+        running: w.running + more,
+        unread: w.unread + unread.symbols,
+        symbols: w.symbols + stack.symbols + unread.symbols,
+        terminals: w.terminals + stack.terminals + unread.terminals,
+    }
+}
+
+// A live chunk's row: status x, from f, head h, end e, marks y.
+fn live_line(area: &[u16], t: u16, n: u16, w: Walk, x: u16, f: u16, h: u16, e: u16, y: u16) -> Walk
+    requires { ⌜ (n ≤ 64) × Sized (now area) × Within 63 w ⌝ }
+    ensures { λ r. ⌜ r ≡ liveLine t n (now (area .entry)) w x f h e y ⌝ }
+{
+    if !status_fits(x) {
+        return fall();
+    }
+    let at = w.at;
+    if !bounds_fit(area[0], at, f, h, e) {
+        return fall();
+    }
+    let stack = side(area, t, n, f, h);
+    let unread = side(area, t, n, h, e);
+    if !sides_fit(stack, unread, x, h, e, y) {
+        return fall();
+    }
+    count_in(w, stack, unread, x, e)
+}
+
+// One row of the table more.
+fn line(area: &[u16], t: u16, n: u16, w: Walk, x: u16, f: u16, h: u16, e: u16, y: u16) -> Walk
+    requires { ⌜ (n ≤ 64) × Sized (now area) × Within 63 w ⌝ }
+    ensures { λ r. ⌜ r ≡ lineOf t n (now (area .entry)) w x f h e y ⌝ }
+{
+    if w.ok {
+        if x == 0 {
+            if gone_fits(f, h, e, y) {
+                return w;
+            }
+            return fall();
+        }
+        return live_line(area, t, n, w, x, f, h, e, y);
+    }
+    fall()
+}
+
+// (d) to (h) of every chunk.
+fn walk_table(area: &[u16], t: u16, n: u16) -> Walk
+    requires { ⌜ (n ≤ 64) × Sized (now area) ⌝ }
+    ensures { λ r. ⌜ r ≡ walkOf t n (now (area .entry)) ⌝ }
+{
+    let count = wide(area[1]);
+    let mut w = Walk {
+        ok: true,
+        at: 0,
+        live: 0,
+        running: 0,
+        unread: 0,
+        symbols: 0,
+        terminals: 0,
+    };
+    let mut at = 5;
+    let mut i = 0;
+    while i < count {
+        w = line(
+            area,
+            t,
+            n,
+            w,
+            area[at],
+            area[at + 1],
+            area[at + 2],
+            area[at + 3],
+            area[at + 4],
+        );
+        at += 5;
+        i += 1;
+    }
+    w
+}
+
+// ---- (d) to (k) of the whole
+
+// (d) Chunk 0 is live, with at least one stack slot.
+fn first_fits(area: &[u16]) -> bool
+    requires { ⌜ Sized (now area) ⌝ }
+    ensures { λ r. ⌜ r ≡ firstFits (now (area .entry)) ⌝ }
+{
+    if area[5] == 0 {
+        return false;
+    }
+    1 <= area[7]
+}
+
+// (e) The last live chunk's end is n+2, or n+1 if chunk 0 is the only live chunk and its head is n+1.
+fn end_fits(area: &[u16], w: Walk) -> bool
+    requires { ⌜ Sized (now area) ⌝ }
+    ensures { λ r. ⌜ r ≡ endFits (now (area .entry)) w ⌝ }
+{
+    let tokens = area[0];
+    let head = area[7];
+    if w.at == tokens + 2 {
+        return true;
+    }
+    if w.at != tokens + 1 {
+        return false;
+    }
+    if w.live != 1 {
+        return false;
+    }
+    head == tokens + 1
+}
+
+// (i) The reductions made and the terminals other than # are at most n.
+fn rule_i(area: &[u16], w: Walk) -> bool
+    requires { ⌜ Sized (now area) ⌝ }
+    ensures { λ r. ⌜ r ≡ ruleI (now (area .entry)) w ⌝ }
+{
+    long(area[4]) + long(w.terminals) <= long(area[0])
+}
+
+// One less, and 0 of 0.
+fn one_less(x: u16) -> u64
+    ensures { λ r. ⌜ (r ≡ pred x) × (r < 65536) ⌝ }
+{
+    if x == 0 {
+        return 0;
+    }
+    long(x - 1)
+}
+
+// The product of two words.
+fn times(x: u64, y: u64) -> u64
+    requires { ⌜ (x < 65536) × (y < 65536) ⌝ }
+    ensures { λ r. ⌜ (r ≡ x * y) × (r < 2 ^ 32) ⌝ }
+{
+    x * y
+}
+
+// The most moves that can still come.
+fn potential(w: Walk) -> u64
+    ensures { λ r. ⌜ (r ≡ potentialOf w) × (r < 2 ^ 33) ⌝ }
+{
+    let others = one_less(w.live);
+    long(w.unread)
+        + times(one_less(w.symbols), others)
+        + long(w.terminals)
+        + 2 * others
+        + long(w.running)
+}
+
+// (j) The moves made, and the most that can still come.
+fn rule_j(area: &[u16], w: Walk) -> bool
+    requires { ⌜ Sized (now area) ⌝ }
+    ensures { λ r. ⌜ r ≡ ruleJ (now (area .entry)) w ⌝ }
+{
+    let tokens = long(area[0]);
+    let count = long(area[1]);
+    let low = long(area[2]);
+    let high = long(area[3]);
+    low + 65536 * high + potential(w) <= times(tokens, count) + tokens + 4 * count - 2
+}
+
+// The words from `from` up to `to` are 0.
+fn blank(area: &[u16], from: usize, to: usize) -> bool
+    requires { ⌜ to ≤ length (now area) ⌝ }
+    ensures { λ r. ⌜ r ≡ blank (to - from) (drop from (now (area .entry))) ⌝ }
+{
+    let mut i = from;
+    while i < to {
+        if area[i] != 0 {
+            return false;
+        }
+        i += 1;
+    }
+    true
+}
+
+// (k) Slots past the last end and unused reductions are zeros.
+fn rule_k(area: &[u16], w: Walk) -> bool
+    requires { ⌜ Sized (now area) ⌝ }
+    ensures { λ r. ⌜ r ≡ ruleK (now (area .entry)) w ⌝ }
+{
+    let tokens = wide(area[0]);
+    let base = 5 + 5 * wide(area[1]);
+    let made = base + 4 * (tokens + 2);
+    if blank(area, base + 4 * wide(w.at), made) {
+        return blank(area, made + 3 * wide(area[4]), made + 3 * tokens);
+    }
+    false
+}
+
+// (d) to (k), from a walk of the table.
+fn walk_fits(area: &[u16], w: Walk) -> bool
+    requires { ⌜ Sized (now area) ⌝ }
+    ensures { λ r. ⌜ r ≡ walkFits (now (area .entry)) w ⌝ }
+{
+    if !w.ok {
+        return false;
+    }
+    if !first_fits(area) {
+        return false;
+    }
+    if !end_fits(area, w) {
+        return false;
+    }
+    if !rule_i(area, w) {
+        return false;
+    }
+    if !rule_j(area, w) {
+        return false;
+    }
+    rule_k(area, w)
+}
+
+// The area keeps the shape rules, of a grammar with t terminals and n nonterminals.
+pub fn area_in_shape(area: &[u16], t: u16, n: u16) -> bool
+    requires { ⌜ n ≤ 64 ⌝ }
+    ensures { λ r. ⌜ r ≡ areaInShape t n (now (area .entry)) ⌝ }
+{
+    if !sized(area) {
+        return false;
+    }
+    walk_fits(area, walk_table(area, t, n))
 }

@@ -4,8 +4,8 @@
 --
 -- Main definitions: flat, before.
 -- Main statements: set-part, getD-part (a word by its part and its place there), flat-split, flat-set, length-before, length-flat;
--- drop-past, getD-past (the same for words from some place on), cut-at.
-use mathlib.Core.Path.{_≡_, refl, sym, ap, _∙_}
+-- drop-past, getD-past (the same for words from some place on), cut-at, held-at.
+use mathlib.Core.Path.{_≡_, refl, sym, ap, ap₂, _∙_}
 use mathlib.Core.List.{List, [], _∷_, _++_, append-assoc}
 use Prim.Native.Nat.{ℕ, zero, suc, _+_, _≤_, _<_}
 use native.Mathlib.Nat.{zero-add}
@@ -84,3 +84,7 @@ getD-past words i j p d = sym (getD-drop i words j 0) ∙ ap (λ l. getD l j 0) 
 -- what stands from word i on, cut after k words
 pub cut-at : (words : List ℕ) (i k : ℕ) → drop i words ≡ take k (drop i words) ++ drop (i + k) words
 cut-at words i k = sym (take-append-drop k (drop i words)) ∙ ap (λ l. take k (drop i words) ++ l) (drop-drop k i words)
+
+-- p, where it stands from word i on, and what stands from word j on after it
+pub held-at : (words : List ℕ) (i k j : ℕ) (p : List ℕ) → take k (drop i words) ≡ p → i + k ≡ j → drop i words ≡ p ++ drop j words
+held-at words i k j p h e = cut-at words i k ∙ ap₂ (λ l m. l ++ drop m words) h e

@@ -1,0 +1,275 @@
+-- What the proofs of the shape check's functions share: each test one step on, and the bounds that its counts keep.
+-- Rests on specs' Shape and ShapeCode.
+--
+-- Main statements: scan-more, side-few, blank-more, line-within, countable, sized-of.
+use Prim.Native.Nat.{ℕ, zero, suc, _+_, _*_, _-_, _/_, _%_, _<_, _≤_}
+use mathlib.Core.Path.{_≡_, refl, sym, ap, _∙_}
+use mathlib.Core.Bool.{Bool, true, false, false≢true}
+use mathlib.Core.List.{List, [], _∷_}
+use native.Mathlib.Omega.{arith}
+use native.Mathlib.Nat.{mul-le-mul-right, mul-le-mul-left}
+use native.Mathlib.Decide.{decLe}
+use lib.ListN.{length, getD, drop}
+use lib.Dec.{leb, ltb, eqb}
+use lib.Seq.{drop-drop, getD-drop}
+use borrow.Author.Tests.{leb-true, eqb-true, ne-eqb, lt-leb, le-leb}
+use Rattle.laws.specs.Tests.{all, upTo, each-all, all-each, upTo-below, below-upTo, false-unless, not-both}
+use Rattle.laws.specs.Picks.{pick, allOf, each-of}
+use Rattle.area.specs.declared.shape.Scan.{Scan}
+use Rattle.area.specs.declared.shape.Walk.{Walk}
+use Rattle.area.specs.Layout.{need, slotsAt}
+use Rattle.area.specs.Shape.{byteFits, ruleB, ruleC, symbolFits, placeFits, tag, oneIfTerminal, broken, opened, inner, scanSlot, scanned, freshScan, side, boundsFit, statusFits, goneFits, sidesFit, fallen, counted, liveLine, lineOf, blank}
+use Rattle.area.specs.ShapeCode.{rowFits, Sized, Few, Within, Countable}
+
+-- what holds of both values holds of the one picked
+pick-both : {A : Type 0} (P : A → Type 0) (b : Bool) {x y : A} → (b ≡ true → P x) → (b ≡ false → P y) → P (pick b x y)
+pick-both P true f g = f refl
+pick-both P false f g = g refl
+
+pub all-one : (b : Bool) → b ≡ allOf (b ∷ [])
+all-one true = refl
+all-one false = refl
+
+pub tag-some : (k l : ℕ) → (k ≡ 0 → ⊥) → tag k l ≡ 0
+tag-some zero l h = absurd (h refl)
+tag-some (suc k) l h = refl
+
+-- ---- (b)
+
+module _ (test : ℕ → Bool) (k : ℕ) where
+  pub all-pass : ((v : ℕ) → v < k → test v ≡ true) → all test (upTo k) ≡ true
+  all-pass h = each-all test (upTo k) (λ v m. h v (upTo-below k v m))
+
+  pub one-fails : (v : ℕ) → v < k → test v ≡ false → all test (upTo k) ≡ false
+  one-fails v h e = false-unless (all test (upTo k)) (λ p. not-both (test v) (all-each test (below-upTo k v h) p) e)
+
+both-pass : (a b : Bool) → a ≡ true → b ≡ true → pick a b false ≡ true
+both-pass true b h k = k
+both-pass false b h k = h
+
+second-fails : (a b : Bool) → b ≡ false → pick a b false ≡ false
+second-fails true b k = k
+second-fails false b k = refl
+
+module _ (t : ℕ) (matrix : List ℕ) where
+  abbrev byte : ℕ → Bool
+  byte v = byteFits t (v / 64) (v % 64) (getD matrix v 0)
+
+  abbrev pub byteOver : ℕ → ℕ → Bool
+  byteOver a b = byteFits t a b (getD matrix (64 * a + b) 0)
+
+  byte-over : (a b : ℕ) → b < 64 → byte (64 * a + b) ≡ byteOver a b
+  byte-over a b h =
+      let e : (64 * a + b) / 64 ≡ a = omega arith in
+      let f : (64 * a + b) % 64 ≡ b = omega arith in
+      rw (e, f)
+
+  pub short-fails : length matrix < 4096 → ruleB t matrix ≡ false
+  short-fails h = ap (λ (b : Bool). pick b (all byte (upTo 4096)) false) (lt-leb 4096 (length matrix) h)
+
+  -- each row fits, so each byte does
+  pub rows-fit : 4096 ≤ length matrix → ((a : ℕ) → a < 64 → rowFits t matrix a ≡ true) → ruleB t matrix ≡ true
+  unfolding rowFits
+  rows-fit long rows = both-pass (leb 4096 (length matrix)) (all byte (upTo 4096)) (le-leb 4096 (length matrix) long) (all-pass byte 4096 fits)
+    where
+      fits : (v : ℕ) → v < 4096 → byte v ≡ true
+      fits v h =
+          let e : 64 * (v / 64) + v % 64 ≡ v = omega arith in
+          let a : v / 64 < 64 = omega arith in
+          let b : v % 64 < 64 = omega arith in
+          ap byte (sym e) ∙ byte-over (v / 64) (v % 64) b ∙ all-each (byteOver (v / 64)) (below-upTo 64 (v % 64) b) (rows (v / 64) a)
+
+  -- a row that does not fit has a byte that does not
+  pub row-fails : (a : ℕ) → a < 64 → rowFits t matrix a ≡ false → ruleB t matrix ≡ false
+  unfolding rowFits
+  row-fails a h e =
+      second-fails (leb 4096 (length matrix)) (all byte (upTo 4096)) (false-unless (all byte (upTo 4096)) (λ p. not-both (rowFits t matrix a) (passes p) e))
+    where
+      passes : all byte (upTo 4096) ≡ true → rowFits t matrix a ≡ true
+      passes p = all-pass (byteOver a) 64 (λ b k. sym (byte-over a b k) ∙ all-each byte (below-upTo 4096 (64 * a + b) (omega arith)) p)
+
+-- ---- (c)
+
+pub sized-of : (area : List ℕ) → ruleC area ≡ true → Sized area
+sized-of area h =
+    let n = getD area 0 0 in
+    let count = getD area 1 0 in
+    let e = each-of (leb 1 n ∷ leb n 16384 ∷ leb 1 count ∷ leb count 64 ∷ leb (need n count) (length area) ∷ []) h in
+    record {
+      some-token = leb-true _ _ (e .0);
+      few-tokens = leb-true _ _ (e .1 .0);
+      some-chunk = leb-true _ _ (e .1 .1 .0);
+      few-chunks = leb-true _ _ (e .1 .1 .1 .0);
+      long = leb-true _ _ (e .1 .1 .1 .1 .0);
+    }
+
+-- words too few for any row
+pub short : (area : List ℕ) → length area < 13 → ruleC area ≡ false
+short area h = go (leb 1 (getD area 0 0)) (leb (getD area 0 0) 16384) (leb 1 (getD area 1 0)) (leb (getD area 1 0) 64)
+  where
+    fails : leb (need (getD area 0 0) (getD area 1 0)) (length area) ≡ false
+    fails = lt-leb (need (getD area 0 0) (getD area 1 0)) (length area) (omega arith)
+
+    go : (a b c d : Bool) → allOf (a ∷ b ∷ c ∷ d ∷ leb (need (getD area 0 0) (getD area 1 0)) (length area) ∷ []) ≡ false
+    go true true true true = rw fails
+    go true true true false = refl
+    go true true false d = refl
+    go true false c d = refl
+    go false b c d = refl
+
+-- ---- a slot more
+
+pub scan-more : (t n tokens count slot at : ℕ) (xs : List ℕ) (st : Scan)
+    → scanned t n tokens (suc count) slot (drop at xs) st
+    ≡ scanned t n tokens count (slot + 1) (drop (at + 4) xs) (scanSlot t n tokens slot st (getD xs at 0) (getD xs (at + 1) 0) (getD xs (at + 2) 0) (getD xs (at + 3) 0))
+scan-more t n tokens count slot at xs st =
+    let z : at + 0 ≡ at = omega arith in
+    rw (drop-drop 4 at xs, getD-drop at xs 0 0, getD-drop at xs 1 0, getD-drop at xs 2 0, getD-drop at xs 3 0, z)
+
+pub mark-small : (t n s m : ℕ) → symbolFits t n s m ≡ true → m ≤ 1
+mark-small t n s m h = go (decLe m 1)
+  where
+    go : Dec (m ≤ 1) → m ≤ 1
+    go (yes k) = k
+    go (no k) = absurd (false≢true (simp (ne-eqb m 0 (λ e. k (omega arith)), ne-eqb m 1 (λ e. k (omega arith))) at h))
+
+pub one-small : (s : ℕ) → oneIfTerminal s ≤ 1
+one-small s =
+    pick-both (λ v. v ≤ 1) (eqb s 0) (λ e. omega arith) (λ e. pick-both (λ v. v ≤ 1) (ltb s 256) (λ i. omega arith) (λ i. omega arith))
+
+module _ (t n tokens slot : ℕ) (st : Scan) (s m l b k : ℕ) (few : Few k st) where
+  abbrev More : Scan → Type 0
+  More r = Few (k + 1) r
+
+  none-few : More broken
+  none-few = record { symbols = omega arith; terminals = omega arith; marks = omega arith }
+
+  open-few : More (opened t n tokens slot st s m l b)
+  open-few =
+      pick-both More (eqb l 0) (λ e. none-few)
+      (λ e. pick-both More (symbolFits t n s m)
+      (λ fits. pick-both More (placeFits tokens slot s l)
+      (λ i. pick-both More (eqb b (tag (l - 1) l))
+      (λ j. record { symbols = omega arith; terminals = omega (arith, one-small s); marks = omega (arith, mark-small t n s m fits) })
+      (λ j. none-few))
+      (λ i. none-few))
+      (λ i. none-few))
+
+  inner-few : More (inner st s m l b)
+  inner-few =
+      pick-both More (eqb s 0)
+      (λ e. pick-both More (eqb m 0)
+      (λ f. pick-both More (eqb l 0)
+      (λ g. pick-both More (eqb b (tag (st .within - 1) (st .size)))
+      (λ i. record { symbols = omega arith; terminals = omega arith; marks = omega arith })
+      (λ i. none-few))
+      (λ g. none-few))
+      (λ f. none-few))
+      (λ e. none-few)
+
+  pub slot-few : More (scanSlot t n tokens slot st s m l b)
+  unfolding scanSlot
+  slot-few = pick-both More (st .ok) (λ e. pick-both More (eqb (st .within) 0) (λ i. open-few) (λ i. inner-few)) (λ e. none-few)
+
+scanned-few : (t n tokens count slot : ℕ) (ws : List ℕ) (st : Scan) (k : ℕ) → Few k st → Few (k + count) (scanned t n tokens count slot ws st)
+scanned-few t n tokens zero slot ws st k few = record { symbols = omega arith; terminals = omega arith; marks = omega arith }
+scanned-few t n tokens (suc count) slot ws st k few =
+    let e : k + suc count ≡ k + 1 + count = omega arith in
+    rw e (scanned-few t n tokens count (slot + 1) (drop 4 ws) (scanSlot t n tokens slot st (getD ws 0 0) (getD ws 1 0) (getD ws 2 0) (getD ws 3 0)) (k + 1)
+    (slot-few t n tokens slot st (getD ws 0 0) (getD ws 1 0) (getD ws 2 0) (getD ws 3 0) k few))
+
+-- a side of a chunk has at most as many symbols, terminals and marks as slots
+pub side-few : (t n : ℕ) (area : List ℕ) (from to : ℕ) → Few (to - from) (side t n area from to)
+unfolding side
+side-few t n area from to =
+    let none : Few 0 freshScan = record { symbols = omega arith; terminals = omega arith; marks = omega arith } in
+    let e : 0 + (to - from) ≡ to - from = omega arith in
+    rw e at (scanned-few t n (getD area 0 0) (to - from) from (drop (slotsAt area + 4 * from) area) freshScan 0 none)
+
+-- ---- words that are 0
+
+pub blank-more : (k i : ℕ) (xs : List ℕ) → blank (suc k) (drop i xs) ≡ pick (eqb (getD xs i 0) 0) (blank k (drop (i + 1) xs)) false
+blank-more k i xs =
+    let z : i + 0 ≡ i = omega arith in
+    rw (drop-drop 1 i xs, getD-drop i xs 0 0, z)
+
+-- ---- a row of the table more
+
+-- from is the end before it; from, head, end in order, and the end within the slots
+pub record Bounded (tokens at f h e : ℕ) : Type 0 where
+  pub starts : f ≡ at
+  pub low : f ≤ tokens + 1
+  pub head : f ≤ h
+  pub end : h ≤ e
+  pub last : e ≤ tokens + 2
+
+pub bounded-of : (tokens at f h e : ℕ) → boundsFit tokens at f h e ≡ true → Bounded tokens at f h e
+bounded-of tokens at f h e p =
+    let q = each-of (eqb f at ∷ leb f (tokens + 1) ∷ leb f h ∷ leb h e ∷ leb e (tokens + 2) ∷ []) p in
+    record {
+      starts = eqb-true _ _ (q .0);
+      low = leb-true _ _ (q .1 .0);
+      head = leb-true _ _ (q .1 .1 .0);
+      end = leb-true _ _ (q .1 .1 .1 .0);
+      last = leb-true _ _ (q .1 .1 .1 .1 .0);
+    }
+
+module _ (t n : ℕ) (area : List ℕ) (sized : Sized area) (k : ℕ) (w : Walk) (within : Within k w) (x f h e y : ℕ) where
+  pub countable : Bounded (getD area 0 0) (w .at) f h e → Countable k e w (side t n area f h) (side t n area h e)
+  countable bounded =
+      let stack = side-few t n area f h in
+      let unread = side-few t n area h e in
+      record {
+        end-low = omega arith;
+        live = within .live;
+        running = within .running;
+        unread-low = omega arith;
+        symbols-low = omega arith;
+        terminals-low = omega arith;
+      }
+
+  abbrev One : Walk → Type 0
+  One r = Within (k + 1) r
+
+  none-within : One fallen
+  none-within =
+      record { at = omega arith; live = omega arith; running = omega arith; unread = omega arith; symbols = omega arith; terminals = omega arith }
+
+  same-within : One w
+  same-within =
+      record { at = omega arith; live = omega arith; running = omega arith; unread = omega arith; symbols = omega arith; terminals = omega arith }
+
+  counted-within : Bounded (getD area 0 0) (w .at) f h e → One (counted w (side t n area f h) (side t n area h e) x e)
+  counted-within bounded =
+      let can = countable bounded in
+      record {
+        at = can .end-low;
+        live = omega arith;
+        running = pick-both (λ v. w .running + v ≤ k + 1) (eqb x 1) (λ i. omega arith) (λ i. omega arith);
+        unread = can .unread-low;
+        symbols = can .symbols-low;
+        terminals = can .terminals-low;
+      }
+
+  pub line-within : One (lineOf t n area w x f h e y)
+  unfolding lineOf
+  line-within =
+      pick-both One (w .ok)
+      (λ i. pick-both One (eqb x 0)
+      (λ j. pick-both One (goneFits f h e y) (λ g. same-within) (λ g. none-within))
+      (λ j. pick-both One (statusFits x)
+      (λ s. pick-both One (boundsFit (getD area 0 0) (w .at) f h e)
+      (λ p. pick-both One (sidesFit (side t n area f h) (side t n area h e) x h e y)
+      (λ q. counted-within (bounded-of (getD area 0 0) (w .at) f h e p))
+      (λ q. none-within))
+      (λ p. none-within))
+      (λ s. none-within)))
+      (λ i. none-within)
+
+-- ---- numbers
+
+pub product-below : (a b : ℕ) → a < 65536 → b < 65536 → a * b < 4294967296
+product-below a b ha hb =
+    let i : a ≤ 65535 = omega arith in
+    let j : b ≤ 65535 = omega arith in
+    omega (arith, mul-le-mul-right b i, mul-le-mul-left 65535 j)
