@@ -1,7 +1,7 @@
 -- What the proofs of the shape check's functions share: each test one step on, and the bounds that its counts keep.
 -- Rests on specs' Shape and ShapeCode.
 --
--- Main statements: scan-more, side-few, blank-more, line-within, countable, sized-of.
+-- Main statements: headed; rows-fit, row-fails; sized-of; scan-more, side-few; blank-more; countable, line-within.
 use Prim.Native.Nat.{ℕ, zero, suc, _+_, _*_, _-_, _/_, _%_, _<_, _≤_}
 use mathlib.Core.Path.{_≡_, refl, sym, ap, _∙_}
 use mathlib.Core.Bool.{Bool, true, false, false≢true}
@@ -10,21 +10,29 @@ use native.Mathlib.Omega.{arith}
 use native.Mathlib.Nat.{mul-le-mul-right, mul-le-mul-left}
 use native.Mathlib.Decide.{decLe}
 use lib.ListN.{length, getD, drop}
-use lib.Dec.{leb, ltb, eqb}
+use lib.Dec.{leb, ltb, eqb, lit<}
 use lib.Seq.{drop-drop, getD-drop}
 use borrow.Author.Tests.{leb-true, eqb-true, ne-eqb, lt-leb, le-leb}
 use Rattle.laws.specs.Tests.{all, upTo, each-all, all-each, upTo-below, below-upTo, false-unless, not-both}
 use Rattle.laws.specs.Picks.{pick, allOf, each-of}
+use Rattle.language.specs.declared.Refusal.{Refusal}
+use Rattle.language.specs.declared.Answer.{Answer}
+use Rattle.language.specs.declared.Answer.the-variants.{Done, Refused}
+use Rattle.language.specs.Words.{countT, countN}
+use Rattle.language.specs.Checks.{checkSymbols}
+use Rattle.language.specs.CheckHead.{head-absent}
+use Rattle.language.specs.WordsInRange.{few-terminals, few-nonterminals}
 use Rattle.area.specs.declared.shape.Scan.{Scan}
 use Rattle.area.specs.declared.shape.Walk.{Walk}
 use Rattle.area.specs.Layout.{need, slotsAt}
-use Rattle.area.specs.Shape.{byteFits, ruleB, ruleC, symbolFits, placeFits, tag, oneIfTerminal, broken, opened, inner, scanSlot, scanned, freshScan, side, boundsFit, statusFits, goneFits, sidesFit, fallen, counted, liveLine, lineOf, blank}
+use Rattle.area.specs.Shape.{isDone, ruleA, grammarInShape, byteFits, ruleB, ruleC, symbolFits, placeFits, tag, oneIfTerminal, broken, opened, inner, scanSlot, scanned, freshScan, side, boundsFit, statusFits, goneFits, sidesFit, fallen, counted, liveLine, lineOf, blank}
+use Rattle.area.specs.WordsOfShape.{rule-a-exactly}
 use Rattle.area.specs.ShapeCode.{rowFits, Sized, Few, Within, Countable}
 
 -- what holds of both values holds of the one picked
-pick-both : {A : Type 0} (P : A → Type 0) (b : Bool) {x y : A} → (b ≡ true → P x) → (b ≡ false → P y) → P (pick b x y)
-pick-both P true f g = f refl
-pick-both P false f g = g refl
+picked : {A : Type 0} (P : A → Type 0) (b : Bool) {x y : A} → (b ≡ true → P x) → (b ≡ false → P y) → P (pick b x y)
+picked P true f g = f refl
+picked P false f g = g refl
 
 pub all-one : (b : Bool) → b ≡ allOf (b ∷ [])
 all-one true = refl
@@ -33,6 +41,24 @@ all-one false = refl
 pub tag-some : (k l : ℕ) → (k ≡ 0 → ⊥) → tag k l ≡ 0
 tag-some zero l h = absurd (h refl)
 tag-some (suc k) l h = refl
+
+-- ---- (a)
+
+-- words that pass 1 to 3 have a head, with T and N in their ranges
+pub headed : (words : List ℕ) → ruleA words ≡ true → (4 ≤ length words) × (countT words ≤ 63) × (countN words ≤ 64)
+headed words e =
+    let passes = rule-a-exactly words .0 e .head in
+    let present : length words ≤ 3 → ⊥ = λ h. passes 3 (head-absent (lit< tt) h) in
+    (omega arith, few-terminals words passes .1, few-nonterminals words passes .1)
+
+module _ (words matrix : List ℕ) where
+  pub passed : checkSymbols words ≡ Done → grammarInShape words matrix ≡ ruleB (countT words) matrix
+  unfolding grammarInShape
+  passed e = ap (λ (answer : Answer). pick (isDone answer) (ruleB (countT words) matrix) false) e
+
+  pub refused : {refusal : Refusal} → checkSymbols words ≡ Refused refusal → grammarInShape words matrix ≡ false
+  unfolding grammarInShape
+  refused e = ap (λ (answer : Answer). pick (isDone answer) (ruleB (countT words) matrix) false) e
 
 -- ---- (b)
 
@@ -135,7 +161,7 @@ mark-small t n s m h = go (decLe m 1)
 
 pub one-small : (s : ℕ) → oneIfTerminal s ≤ 1
 one-small s =
-    pick-both (λ v. v ≤ 1) (eqb s 0) (λ e. omega arith) (λ e. pick-both (λ v. v ≤ 1) (ltb s 256) (λ i. omega arith) (λ i. omega arith))
+    picked (λ v. v ≤ 1) (eqb s 0) (λ e. omega arith) (λ e. picked (λ v. v ≤ 1) (ltb s 256) (λ i. omega arith) (λ i. omega arith))
 
 module _ (t n tokens slot : ℕ) (st : Scan) (s m l b k : ℕ) (few : Few k st) where
   abbrev More : Scan → Type 0
@@ -146,10 +172,10 @@ module _ (t n tokens slot : ℕ) (st : Scan) (s m l b k : ℕ) (few : Few k st) 
 
   open-few : More (opened t n tokens slot st s m l b)
   open-few =
-      pick-both More (eqb l 0) (λ e. none-few)
-      (λ e. pick-both More (symbolFits t n s m)
-      (λ fits. pick-both More (placeFits tokens slot s l)
-      (λ i. pick-both More (eqb b (tag (l - 1) l))
+      picked More (eqb l 0) (λ e. none-few)
+      (λ e. picked More (symbolFits t n s m)
+      (λ fits. picked More (placeFits tokens slot s l)
+      (λ i. picked More (eqb b (tag (l - 1) l))
       (λ j. record { symbols = omega arith; terminals = omega (arith, one-small s); marks = omega (arith, mark-small t n s m fits) })
       (λ j. none-few))
       (λ i. none-few))
@@ -157,10 +183,10 @@ module _ (t n tokens slot : ℕ) (st : Scan) (s m l b k : ℕ) (few : Few k st) 
 
   inner-few : More (inner st s m l b)
   inner-few =
-      pick-both More (eqb s 0)
-      (λ e. pick-both More (eqb m 0)
-      (λ f. pick-both More (eqb l 0)
-      (λ g. pick-both More (eqb b (tag (st .within - 1) (st .size)))
+      picked More (eqb s 0)
+      (λ e. picked More (eqb m 0)
+      (λ f. picked More (eqb l 0)
+      (λ g. picked More (eqb b (tag (st .within - 1) (st .size)))
       (λ i. record { symbols = omega arith; terminals = omega arith; marks = omega arith })
       (λ i. none-few))
       (λ g. none-few))
@@ -169,7 +195,7 @@ module _ (t n tokens slot : ℕ) (st : Scan) (s m l b k : ℕ) (few : Few k st) 
 
   pub slot-few : More (scanSlot t n tokens slot st s m l b)
   unfolding scanSlot
-  slot-few = pick-both More (st .ok) (λ e. pick-both More (eqb (st .within) 0) (λ i. open-few) (λ i. inner-few)) (λ e. none-few)
+  slot-few = picked More (st .ok) (λ e. picked More (eqb (st .within) 0) (λ i. open-few) (λ i. inner-few)) (λ e. none-few)
 
 scanned-few : (t n tokens count slot : ℕ) (ws : List ℕ) (st : Scan) (k : ℕ) → Few k st → Few (k + count) (scanned t n tokens count slot ws st)
 scanned-few t n tokens zero slot ws st k few = record { symbols = omega arith; terminals = omega arith; marks = omega arith }
@@ -245,7 +271,7 @@ module _ (t n : ℕ) (area : List ℕ) (sized : Sized area) (k : ℕ) (w : Walk)
       record {
         at = can .end-low;
         live = omega arith;
-        running = pick-both (λ v. w .running + v ≤ k + 1) (eqb x 1) (λ i. omega arith) (λ i. omega arith);
+        running = picked (λ v. w .running + v ≤ k + 1) (eqb x 1) (λ i. omega arith) (λ i. omega arith);
         unread = can .unread-low;
         symbols = can .symbols-low;
         terminals = can .terminals-low;
@@ -254,12 +280,12 @@ module _ (t n : ℕ) (area : List ℕ) (sized : Sized area) (k : ℕ) (w : Walk)
   pub line-within : One (lineOf t n area w x f h e y)
   unfolding lineOf
   line-within =
-      pick-both One (w .ok)
-      (λ i. pick-both One (eqb x 0)
-      (λ j. pick-both One (goneFits f h e y) (λ g. same-within) (λ g. none-within))
-      (λ j. pick-both One (statusFits x)
-      (λ s. pick-both One (boundsFit (getD area 0 0) (w .at) f h e)
-      (λ p. pick-both One (sidesFit (side t n area f h) (side t n area h e) x h e y)
+      picked One (w .ok)
+      (λ i. picked One (eqb x 0)
+      (λ j. picked One (goneFits f h e y) (λ g. same-within) (λ g. none-within))
+      (λ j. picked One (statusFits x)
+      (λ s. picked One (boundsFit (getD area 0 0) (w .at) f h e)
+      (λ p. picked One (sidesFit (side t n area f h) (side t n area h e) x h e y)
       (λ q. counted-within (bounded-of (getD area 0 0) (w .at) f h e p))
       (λ q. none-within))
       (λ p. none-within))

@@ -1,6 +1,6 @@
 -- What the code of the shape check is stated by, besides Shape's tests: the facts that keep it within its numbers, and one row of the
 -- matrix. The counts of a scan and of a walk are at most the slots and the rows of the table passed.
--- Document 01: "No call reads outside what it was lent".
+-- Document 01, 15 BAD STATE, and "Grammar, tokens, cuts, work area and report are lent u16 slices".
 -- Rests on Shape.
 --
 -- Main definitions: Sized, Few, Within, Countable, rowFits.

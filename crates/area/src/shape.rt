@@ -1,16 +1,15 @@
 // The shape rules of docs/AREA.md, checked in one pass over the lent words and bytes.
 // Each function is one definition of specs/Shape.antt, of which its contract is the equation.
+use language::Answer;
 ghost use mathlib.Core.Path.{_≡_};
-ghost use Prim.Native.Nat.{ℕ, _+_, _*_, _-_, _≤_, _<_, _^_, pred};
+ghost use Prim.Native.Nat.{_+_, _*_, _-_, _≤_, _<_, _^_, pred};
 ghost use lib.Dec.{eqb};
 ghost use lib.ListN.{length, getD, drop};
 ghost use Rattle.laws.specs.Picks.{pick};
-ghost use Rattle.machine.specs.Bounded.{mostMoves};
-ghost use Rattle.area.specs.Layout.{need, slotsAt, madeAtWord};
 ghost use Rattle.area.specs.Shape.{ruleC, symbolFits, placeFits, tag, oneIfTerminal, broken, opened, inner, scanSlot, side, sideFits};
 ghost use Rattle.area.specs.Shape.{statusFits, goneFits, boundsFit, stuckFits, sidesFit, fallen, counted, liveLine, lineOf, walkOf};
 ghost use Rattle.area.specs.Shape.{firstFits, endFits, ruleI, potentialOf, ruleJ, blank, ruleK, walkFits, areaInShape};
-ghost use Rattle.area.specs.Shape.{byteFits, ruleB};
+ghost use Rattle.area.specs.Shape.{byteFits, ruleB, grammarInShape};
 ghost use Rattle.area.specs.ShapeCode.{rowFits, Sized, Few, Within, Countable};
 
 // Where a scan of one side of a chunk stands: within a symbol of `size` slots, `within` of them to come; how many symbols,
@@ -109,6 +108,16 @@ pub fn matrix_in_shape(matrix: &[u8], t: u16) -> bool
         a += 1;
     }
     true
+}
+
+// The grammar words and the matrix keep the shape rules.
+pub fn grammar_in_shape(words: &[u16], matrix: &[u8]) -> bool
+    ensures { λ r. ⌜ r ≡ grammarInShape (now (words .entry)) (now (matrix .entry)) ⌝ }
+{
+    if let Answer::Refused(_) = table::check_symbols(words) {
+        return false;
+    }
+    matrix_in_shape(matrix, words[0])
 }
 
 // ---- (c) the sizes

@@ -5,9 +5,9 @@
 -- Main statements: first-word, mark-word, size-word, last-word, start-is; cleared-one (its clearing), laid (its laying).
 use mathlib.Core.Path.{_≡_, refl, sym, ap, _∙_}
 use mathlib.Core.List.{List, [], _∷_, _++_, append-assoc}
-use Prim.Native.Nat.{ℕ, zero, suc, _+_, _*_, _-_, _<_, _≤_}
+use Prim.Native.Nat.{ℕ, zero, suc, _+_, _*_, _-_}
 use native.Mathlib.Omega.{arith}
-use lib.ListN.{length, getD, set, replicate, length-replicate, replicate-append-replicate}
+use lib.ListN.{length, getD, set, length-replicate, replicate-append-replicate}
 use lib.Seq.{getD-append-add, set-at, getD-at}
 use Rattle.laws.specs.Parts.{set-append-add}
 use Rattle.language.specs.Symbols.{wordOf}

@@ -7,7 +7,7 @@
 -- Main definitions: tickWords, pushWords, stickWords, acceptWords, joinWords, clearedWords, reduceWords; Stands (a stack's words stand
 -- there); Ticks, Pushable, Stickable, Acceptable, Joinable, Laid, Roomy, Reducible (what each asks).
 use mathlib.Core.Path.{_≡_}
-use mathlib.Core.List.{List, [], _∷_, _++_}
+use mathlib.Core.List.{List, _++_}
 use Prim.Native.Nat.{ℕ, zero, suc, _+_, _*_, _-_, _/_, _%_, _<_, _≤_}
 use lib.ListN.{length, getD, take, drop, set}
 use Rattle.language.specs.Trees.{Span}

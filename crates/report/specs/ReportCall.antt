@@ -5,7 +5,7 @@
 -- part of no tokens at place 0."
 -- Rests on area's Layout and Shape, and on machine's States and Answers.
 --
--- Main definitions: reportAnswer, reportOut; entryStands, entryStart, entryTokens.
+-- Main definitions: reportAnswer, reportOut; entryStands, entryStart, entryTokens, wordAddress.
 use mathlib.Core.Bool.{Bool, true, false, _&&_}
 use mathlib.Core.List.{List, []}
 use Prim.Native.Nat.{ℕ, _+_, _*_}
@@ -46,3 +46,7 @@ entryStart report e count = elim (entryStands report e count) [ true ↦ getD re
 unfoldable pub entryTokens : List ℕ → ℕ → List ℕ → List ℕ
 entryTokens report e tokens =
     elim (entryStands report e (length tokens)) [ true ↦ slice (getD report (3 * e + 1) 0) (getD report (3 * e + 2) 0) tokens | false ↦ [] ]
+
+-- the address of word i of a run of 16-bit words: an address is a block, and a byte of it
+abbrev pub wordAddress : ℕ × ℕ → ℕ → ℕ × ℕ
+wordAddress run i = (run .0, run .1 + 2 * i)

@@ -1,1 +1,26 @@
 // The report of a finished row, and the tokens of one of its entries. Their meanings stand in specs/.
+mod order;
+
+ghost use mathlib.Core.Path.{_≡_};
+ghost use lib.ListN.{length};
+ghost use Rattle.report.specs.ReportCall.{entryStart, entryTokens, wordAddress};
+
+// The tokens of one report entry: that part of the caller's own token run. If the entry isn't wholly in the report run, its second
+// word exceeds its third, or its third exceeds the token count, the answer is the part of no tokens at place 0.
+pub fn entry_tokens<'a, 'b>(report: &'a [u16], entry: usize, tokens: &'b [u16]) -> &'b [u16]
+    ensures { λ r. ⌜ now r ≡ entryTokens (now (report .entry)) entry (now (tokens .entry)) ⌝ }
+    ensures { λ r. ⌜ r .ptr ≡ wordAddress (tokens .entry .ptr) (entryStart (now (report .entry)) entry (length (now (tokens .entry)))) ⌝ }
+{
+    if report.len() / 3 <= entry {
+        return &tokens[0..0];
+    }
+    let first = report[3 * entry + 1] as usize;
+    let after = report[3 * entry + 2] as usize;
+    if after < first {
+        return &tokens[0..0];
+    }
+    if tokens.len() < after {
+        return &tokens[0..0];
+    }
+    &tokens[first..after]
+}

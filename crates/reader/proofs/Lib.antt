@@ -1,0 +1,6 @@
+pub mod Clearing
+pub mod Comparing
+pub mod Ready
+pub mod Searches
+pub mod Walks
+pub mod WholeStack

@@ -1,0 +1,93 @@
+-- `moves::note` meets its contract: four stores.
+use Rattle.reader.specs.MoveWords.{notedWords}
+use native.Mathlib.Omega.{arith}
+use lib.ListN.{length-set}
+use borrow.Author.Needs.{needs}
+use Rattle.reader.proofs.moves.note.Statement.{statement}
+use Rattle.reader.proofs.moves.note.Tie as tie
+
+slice-read-made : tie.Need-slice-read-made
+slice-read-made c = search needs
+
+slice-reshared-read-slot-at : tie.Need-slice-reshared-read-slot-at
+slice-reshared-read-slot-at c = search needs
+
+cast-slot-at : tie.Need-cast-slot-at
+cast-slot-at c = search needs
+
+add-slot-at : tie.Need-add-slot-at
+add-slot-at c = search needs
+
+slot-at-requires : tie.Need-slot-at-requires
+slot-at-requires c κs = search needs
+
+cast-at : tie.Need-cast-at
+cast-at c = search needs
+
+mul-at : tie.Need-mul-at
+mul-at c = search needs
+
+add-at : tie.Need-add-at
+add-at c = search needs
+
+mul-area : tie.Need-mul-area
+mul-area c = search needs
+
+slice-write-area : tie.Need-slice-write-area
+slice-write-area c = search needs
+
+add-area : tie.Need-add-area
+add-area c = search needs
+
+mul-area-2 : tie.Need-mul-area-2
+mul-area-2 c = search needs
+
+slice-write-area-2 : tie.Need-slice-write-area-2
+slice-write-area-2 c = simp length-set (omega arith)
+
+add-area-2 : tie.Need-add-area-2
+add-area-2 c = search needs
+
+mul-area-3 : tie.Need-mul-area-3
+mul-area-3 c = search needs
+
+slice-write-area-3 : tie.Need-slice-write-area-3
+slice-write-area-3 c = simp length-set (omega arith)
+
+add-area-3 : tie.Need-add-area-3
+add-area-3 c = omega (arith, c .before .before .slice-known2 .given 0)
+
+slice-write-area-4 : tie.Need-slice-write-area-4
+slice-write-area-4 c = simp length-set (omega arith)
+
+same-length : tie.Need-same-length
+same-length c = search needs
+
+returns : tie.Need-returns
+unfolding notedWords
+returns c = rw (c .slot-at .ensures)
+
+pub note-spec : {M : Type 1} → statement M
+note-spec =
+    tie.close
+    (tie.spec
+    slice-read-made
+    slice-reshared-read-slot-at
+    cast-slot-at
+    add-slot-at
+    slot-at-requires
+    cast-at
+    mul-at
+    add-at
+    mul-area
+    slice-write-area
+    add-area
+    mul-area-2
+    slice-write-area-2
+    add-area-2
+    mul-area-3
+    slice-write-area-3
+    add-area-3
+    slice-write-area-4
+    same-length
+    returns)

@@ -1,0 +1,374 @@
+// The moves of a chunk and the join of two, on the words of a lent work area; and what a move reads of these words.
+// Each function that writes leaves exactly the words that a definition of specs/MoveWords.antt names. No symbol moves.
+ghost use mathlib.Core.Path.{_≡_};
+ghost use Prim.Native.Nat.{_+_, _*_, _-_, _≤_, _<_};
+ghost use lib.ListN.{length, getD};
+ghost use Rattle.area.specs.Layout.{slotsAt, slotWord};
+ghost use Rattle.reader.specs.MoveWords.{tickWords, pushWords, stickWords, acceptWords, unmarkWords, goneWords, joinWords};
+ghost use Rattle.reader.specs.MoveWords.{startOf, clearedOne, clearedWords, laidWords, notedWords, reduceWords};
+ghost use Rattle.reader.specs.MoveWords.{Ticks, Pushable, Stickable, Acceptable, Joinable, Tagged, Laid, Roomy, Reducible};
+ghost use Rattle.reader.specs.MoveWords.{fromOf, headOf, slotAt};
+ghost use Rattle.reader.specs.ReadWords.{Stacked, HasStack, EndsBlock, startSlot, TopIs, NonterminalOnTop, EndAndAxiom, BelowMark, HandleStarts, nextOf, liveAfter};
+ghost use Rattle.reader.specs.MatchWords.{Readable, Whole, handleWords, matchWords, matchedOf};
+ghost use Rattle.language.specs.Words.{countR, bodyEnd};
+
+// The word where slot s starts.
+fn slot_at(area: &[u16], s: usize) -> usize
+    requires { ⌜ slotAt (now area) s ≤ length (now area) ⌝ }
+    ensures { λ r. ⌜ r ≡ slotAt (now (area .entry)) s ⌝ }
+{
+    5 + 5 * (area[1] as usize) + 4 * s
+}
+
+// Word k of slot s.
+pub fn slot_word(area: &[u16], s: usize, k: usize) -> u16
+    requires { ⌜ slotAt (now area) s + k < length (now area) ⌝ }
+    ensures { λ r. ⌜ r ≡ slotWord (now (area .entry)) s k ⌝ }
+{
+    area[slot_at(area, s) + k]
+}
+
+// One move more.
+pub fn tick(area: &mut [u16])
+    requires { ⌜ Ticks (now area) ⌝ }
+    ensures { λ _. ⌜ now (area .exit) ≡ tickWords (now (area .entry)) ⌝ }
+{
+    let moves = (area[2] as u32) + 65536 * (area[3] as u32) + 1;
+    area[2] = (moves % 65536) as u16;
+    area[3] = (moves / 65536) as u16;
+}
+
+// Puts chunk c's next unread symbol on its stack, with this mark (0 or 1).
+pub fn push(area: &mut [u16], c: usize, mark: u16)
+    requires { ⌜ Pushable (now area) c mark ⌝ }
+    ensures { λ _. ⌜ now (area .exit) ≡ pushWords (now (area .entry)) c mark ⌝ }
+{
+    let line = 5 + 5 * c;
+    let head = area[line + 2];
+    let marks = area[line + 4];
+    let slot = slot_at(area, head as usize);
+    let size = area[slot + 2];
+    area[slot + 1] = mark;
+    area[line + 2] = head + size;
+    area[line + 4] = marks + mark;
+    tick(area);
+}
+
+// Chunk c gets stuck with 17 to 20.
+pub fn stick(area: &mut [u16], c: usize, status: u16)
+    requires { ⌜ Stickable (now area) c ⌝ }
+    ensures { λ _. ⌜ now (area .exit) ≡ stickWords (now (area .entry)) c status ⌝ }
+{
+    let line = 5 + 5 * c;
+    area[line + 0] = status;
+    tick(area);
+}
+
+// Chunk c reads the # of the end, its stack unchanged.
+pub fn accept(area: &mut [u16], c: usize)
+    requires { ⌜ Acceptable (now area) c ⌝ }
+    ensures { λ _. ⌜ now (area .exit) ≡ acceptWords (now (area .entry)) c ⌝ }
+{
+    let line = 5 + 5 * c;
+    let end = area[line + 3];
+    let slot = slot_at(area, (end - 1) as usize);
+    area[slot + 0] = 0;
+    area[slot + 1] = 0;
+    area[slot + 2] = 0;
+    area[slot + 3] = 0;
+    area[line + 3] = end - 1;
+    tick(area);
+}
+
+// Puts 0 at `count` words, four apart, the first at `first`.
+fn unmark(area: &mut [u16], first: usize, count: usize)
+    requires { ⌜ first + 4 * count ≤ length (now area) + 3 ⌝ }
+    ensures { λ _. ⌜ now (area .exit) ≡ unmarkWords (now (area .entry)) first count ⌝ }
+{
+    let mut at = first;
+    let mut i = 0;
+    while i < count {
+        area[at] = 0;
+        at += 4;
+        i += 1;
+    }
+}
+
+// Chunk d is gone: its row of the table is 0.
+fn gone(area: &mut [u16], d: usize)
+    requires { ⌜ 10 + 5 * d ≤ length (now area) ⌝ }
+    ensures { λ _. ⌜ now (area .exit) ≡ goneWords (now (area .entry)) d ⌝ }
+{
+    let line = 5 + 5 * d;
+    area[line + 0] = 0;
+    area[line + 1] = 0;
+    area[line + 2] = 0;
+    area[line + 3] = 0;
+    area[line + 4] = 0;
+}
+
+// Joins chunk c to chunk d, the next live one.
+pub fn join_chunks(area: &mut [u16], c: usize, d: usize)
+    requires { ⌜ Joinable (now area) c d ⌝ }
+    ensures { λ _. ⌜ now (area .exit) ≡ joinWords (now (area .entry)) c d ⌝ }
+{
+    let line = 5 + 5 * c;
+    let other = 5 + 5 * d;
+    let from = area[other + 1] as usize;
+    let head = area[other + 2] as usize;
+    let end = area[other + 3];
+    let slot = slot_at(area, from);
+    unmark(area, slot + 1, head - from);
+    area[line + 3] = end;
+    gone(area, d);
+    tick(area);
+}
+
+// Clears the block that ends before word `end`, and answers where it starts.
+fn clear_one(area: &mut [u16], end: usize) -> usize
+    requires { ⌜ Tagged (now area) end ⌝ }
+    ensures { λ r. ⌜ (r ≡ startOf (now (area .entry)) end) × (now (area .exit) ≡ clearedOne (now (area .entry)) end) ⌝ }
+{
+    let size = area[end - 1] as usize;
+    let start = end - 4 * size;
+    area[end - 1] = 0;
+    area[start] = 0;
+    area[start + 1] = 0;
+    area[start + 2] = 0;
+    start
+}
+
+// Clears the blocks on the words from `from` up to `to`, from the top down.
+fn clear(area: &mut [u16], from: usize, to: usize)
+    requires { ⌜ Laid (now area) from to ⌝ }
+    ensures { λ _. ⌜ now (area .exit) ≡ clearedWords (now (area .entry)) from (to - from) ⌝ }
+{
+    let mut at = to;
+    while from < at {
+        at = clear_one(area, at);
+    }
+}
+
+// Lays an unmarked symbol of `size` slots at word `at`.
+fn lay(area: &mut [u16], at: usize, symbol: u16, size: u16)
+    requires { ⌜ (0 < size) × (at + 4 * size ≤ length (now area)) ⌝ }
+    ensures { λ _. ⌜ now (area .exit) ≡ laidWords (now (area .entry)) at symbol size ⌝ }
+{
+    area[at] = symbol;
+    area[at + 2] = size;
+    area[at + 4 * (size as usize) - 1] = size;
+}
+
+// Adds a reduction to those made: rule, first place, place after the last.
+fn note(area: &mut [u16], rule: u16, first: u16, after: u16)
+    requires { ⌜ Roomy (now area) ⌝ }
+    ensures { λ _. ⌜ now (area .exit) ≡ notedWords (now (area .entry)) rule first after ⌝ }
+{
+    let made = area[4];
+    let end = slot_at(area, (area[0] as usize) + 2);
+    let at = end + 3 * (made as usize);
+    area[at] = rule;
+    area[at + 1] = first;
+    area[at + 2] = after;
+    area[4] = made + 1;
+}
+
+// Replaces the handle of chunk c, its stack from slot `from` up, by the left side `symbol` of this rule.
+pub fn reduce(area: &mut [u16], c: usize, from: u16, symbol: u16, rule: u16)
+    requires { ⌜ Reducible (now area) c from ⌝ }
+    ensures { λ _. ⌜ now (area .exit) ≡ reduceWords (now (area .entry)) c from symbol rule ⌝ }
+{
+    let line = 5 + 5 * c;
+    let head = area[line + 2];
+    let marks = area[line + 4];
+    let at = slot_at(area, from as usize);
+    let to = slot_at(area, head as usize);
+    clear(area, at, to);
+    lay(area, at, symbol, head - from);
+    area[line + 4] = marks - 1;
+    note(area, rule, from - 1, head - 1);
+    tick(area);
+}
+
+// The topmost terminal of a stack, or that it has none.
+pub enum Top {
+    Terminal(u16),
+    NoTerminal,
+}
+
+// The next live chunk, or that there is none.
+pub enum Next {
+    Chunk(usize),
+    NoChunk,
+}
+
+// The slot where the block that ends before slot `end` starts.
+fn block_start(area: &[u16], end: usize) -> usize
+    requires { ⌜ EndsBlock (now area) end ⌝ }
+    ensures { λ r. ⌜ r ≡ startSlot (now (area .entry)) end ⌝ }
+{
+    end - area[slot_at(area, end) - 1] as usize
+}
+
+// Whether the topmost symbol of the stack on the slots from `from` up to `end` is a nonterminal.
+fn nonterminal_on_top(area: &[u16], from: usize, end: usize) -> bool
+    requires { ⌜ Stacked (now area) from end ⌝ }
+    ensures { λ r. ⌜ NonterminalOnTop (now (area .entry)) from end r ⌝ }
+{
+    if end <= from {
+        return false;
+    }
+    256 <= slot_word(area, block_start(area, end), 0)
+}
+
+// Whether the topmost symbol of chunk c's stack is a nonterminal.
+pub fn top_is_nonterminal(area: &[u16], c: usize) -> bool
+    requires { ⌜ HasStack (now area) c ⌝ }
+    ensures { λ r. ⌜ NonterminalOnTop (now (area .entry)) (fromOf (now (area .entry)) c) (headOf (now (area .entry)) c) r ⌝ }
+{
+    let line = 5 + 5 * c;
+    nonterminal_on_top(area, area[line + 1] as usize, area[line + 2] as usize)
+}
+
+// The topmost terminal of chunk c's stack.
+pub fn top_terminal(area: &[u16], c: usize) -> Top
+    requires { ⌜ HasStack (now area) c ⌝ }
+    ensures { λ r. ⌜ TopIs (now (area .entry)) (fromOf (now (area .entry)) c) (headOf (now (area .entry)) c) r ⌝ }
+{
+    let line = 5 + 5 * c;
+    let from = area[line + 1] as usize;
+    let mut at = area[line + 2] as usize;
+    while from < at {
+        at = block_start(area, at);
+        let word = slot_word(area, at, 0);
+        if word < 256 {
+            return Top::Terminal(word);
+        }
+    }
+    Top::NoTerminal
+}
+
+// Where the handle starts whose mark is at slot `at`: there, or at the nonterminal just below.
+fn below_mark(area: &[u16], from: usize, at: usize) -> usize
+    requires { ⌜ Stacked (now area) from at ⌝ }
+    ensures { λ r. ⌜ BelowMark (now (area .entry)) from at r ⌝ }
+{
+    if nonterminal_on_top(area, from, at) {
+        return block_start(area, at);
+    }
+    at
+}
+
+// The slot where the handle of chunk c's stack starts; `from` where there is no mark.
+pub fn find_mark(area: &[u16], c: usize) -> usize
+    requires { ⌜ HasStack (now area) c ⌝ }
+    ensures { λ r. ⌜ HandleStarts (now (area .entry)) (fromOf (now (area .entry)) c) (headOf (now (area .entry)) c) r ⌝ }
+{
+    let line = 5 + 5 * c;
+    let from = area[line + 1] as usize;
+    let mut at = area[line + 2] as usize;
+    while from < at {
+        at = block_start(area, at);
+        if 0 < slot_word(area, at, 1) {
+            return below_mark(area, from, at);
+        }
+    }
+    from
+}
+
+// Whether chunk c's stack is # and one of the first `axioms` nonterminals.
+pub fn end_and_axiom(area: &[u16], c: usize, axioms: u16) -> bool
+    requires { ⌜ HasStack (now area) c ⌝ }
+    ensures { λ r. ⌜ EndAndAxiom (now (area .entry)) (fromOf (now (area .entry)) c) (headOf (now (area .entry)) c) axioms r ⌝ }
+{
+    let line = 5 + 5 * c;
+    let from = area[line + 1] as usize;
+    let head = area[line + 2] as usize;
+    if head <= from {
+        return false;
+    }
+    let top = block_start(area, head);
+    if top <= from {
+        return false;
+    }
+    let bottom = block_start(area, top);
+    if from < bottom {
+        return false;
+    }
+    if slot_word(area, bottom, 0) != 0 {
+        return false;
+    }
+    let word = slot_word(area, top, 0);
+    if word < 256 {
+        return false;
+    }
+    word - 256 < axioms
+}
+
+// The next live chunk after chunk c.
+pub fn next_live(area: &[u16], c: usize) -> Next
+    requires { ⌜ (c < getD (now area) 1 0) × (slotsAt (now area) ≤ length (now area)) ⌝ }
+    ensures { λ r. ⌜ r ≡ nextOf (liveAfter (now (area .entry)) c) ⌝ }
+{
+    let count = area[1] as usize;
+    let mut d = c + 1;
+    while d < count {
+        let line = 5 + 5 * d;
+        if 0 < area[line + 0] {
+            return Next::Chunk(d);
+        }
+        d += 1;
+    }
+    Next::NoChunk
+}
+
+// The rule of a handle, or that there is none.
+pub enum Matched {
+    Rule(u16),
+    NoRule,
+}
+
+// The word place at which rule r's body ends.
+fn body_end(words: &[u16], r: usize) -> usize
+    requires { ⌜ Readable (now words) × (r < countR (now words)) ⌝ }
+    ensures { λ e. ⌜ (e ≡ bodyEnd (now (words .entry)) r) × (e ≤ length (now (words .entry))) ⌝ }
+{
+    if r + 1 < words[3] as usize {
+        return words[4 + (r + 1)] as usize;
+    }
+    words.len()
+}
+
+// The least rule whose right side is the handle on the slots from `from` up to `head`, its words compared with the symbols where they lie.
+pub fn match_rule(words: &[u16], area: &[u16], from: usize, head: usize) -> Matched
+    requires { ⌜ Readable (now words) × Whole (now area) head from × (slotAt (now area) head ≤ length (now area)) ⌝ }
+    ensures { λ r. ⌜ r ≡ matchedOf (matchWords (now (words .entry)) (handleWords (now (area .entry)) from head)) ⌝ }
+{
+    let rules = words[3] as usize;
+    let mut next: usize = 0;
+    let found = 'outer: loop {
+        let r = next;
+        if rules <= r {
+            break Matched::NoRule;
+        }
+        next += 1;
+        let end = body_end(words, r);
+        let mut i = words[4 + r] as usize + 1;
+        let mut s = from;
+        while s < head {
+            if end <= i {
+                continue 'outer;
+            }
+            if words[i] != slot_word(area, s, 0) {
+                continue 'outer;
+            }
+            s += slot_word(area, s, 2) as usize;
+            i += 1;
+        }
+        if i < end {
+            continue 'outer;
+        }
+        break Matched::Rule(r as u16);
+    };
+    found
+}

@@ -1,0 +1,3 @@
+pub mod EntryLaw
+pub mod OrderLaw
+pub mod SortLaw
