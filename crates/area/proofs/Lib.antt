@@ -1,1 +1,2 @@
 pub mod ShapeLaw
+pub mod StartLaw

@@ -21,7 +21,9 @@ pub mod ShapeExactly
 pub mod ShapeOfKept
 pub mod Sides
 pub mod Start
+pub mod StartChecks
 pub mod StartKept
+pub mod StartWords
 pub mod Tiling
 pub mod Walks
 pub mod WalksRead

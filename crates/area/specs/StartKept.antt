@@ -3,7 +3,7 @@
 -- on its stack, others with nothing. The last chunk reads # after its tokens"; the table's 7, 8, 9 and 10.
 -- Rests on Kept, RowCounts and Start, and on machine's Starts and Bounded.
 --
--- Main definitions: GoodTokens, GoodCuts. Main statements: start-kept, startable-kept.
+-- Main definitions: GoodTokens, GoodCuts. Main statements: start-kept; few-tokens, few-cuts, cut-within, cuts-good, startable-kept.
 use mathlib.Core.Path.{_≡_, refl, ap}
 use mathlib.Core.Bool.{Bool, true, false}
 use mathlib.Core.List.{List, [], _∷_, _++_, map}
@@ -182,7 +182,7 @@ module _ {input : StartInput} (can : Startable input) where
   some-token : 1 ≤ n
   some-token = le-unless 1 n (λ h. can .some-token 0 (no-tokens (omega arith) refl))
 
-  few-tokens : n ≤ 16384
+  pub few-tokens : n ≤ 16384
   few-tokens = le-unless n 16384 (λ h. can .few-tokens 0 (too-many h refl))
 
   right-token : (i : ℕ) → i < n → (1 ≤ getD tokens i 0) × (getD tokens i 0 ≤ countT (input .words))
@@ -191,15 +191,18 @@ module _ {input : StartInput} (can : Startable input) where
     le-unless (getD tokens i 0) (countT (input .words)) (λ h. can .right-tokens i (wrong-token l (too-high h))),
   )
 
-  few-cuts : length cuts ≤ 63
+  pub few-cuts : length cuts ≤ 63
   few-cuts = le-unless (length cuts) 63 (λ h. can .right-cuts 63 (too-many-cuts h))
 
-  cut-within : (i : ℕ) → i < length cuts → getD cuts i 0 ≤ n
+  pub cut-within : (i : ℕ) → i < length cuts → getD cuts i 0 ≤ n
   cut-within i l = le-unless (getD cuts i 0) n (λ h. can .right-cuts i (cut-above few-cuts l h))
 
   cut-rises : (i : ℕ) → suc i < length cuts → getD cuts i 0 ≤ getD cuts (suc i) 0
   cut-rises i l = le-unless (getD cuts i 0) (getD cuts (suc i) 0) (λ h. can .right-cuts (suc i) (cut-below few-cuts l h))
 
+  pub cuts-good : GoodCuts n 0 cuts
+  cuts-good = good-cuts 0 cuts (λ l. omega arith) cut-within cut-rises
+
   -- what start leaves keeps the rules
   pub startable-kept : {N : ℕ} → Kept (countT (input .words)) N n (start tokens cuts)
-  startable-kept = start-kept tokens cuts some-token few-tokens (good-tokens tokens right-token) (good-cuts 0 cuts (λ l. omega arith) cut-within cut-rises) few-cuts
+  startable-kept = start-kept tokens cuts some-token few-tokens (good-tokens tokens right-token) cuts-good few-cuts

@@ -1,8 +1,12 @@
 // The work area: how a row being read stands in lent words, the rules that such words keep, and its start.
+mod begin;
 mod shape;
 
+use language::Answer;
 ghost use mathlib.Core.Path.{_≡_};
+ghost use lib.ListN.{length};
 ghost use Rattle.area.specs.Shape.{inShape};
+ghost use Rattle.area.specs.Start.{startAnswer, startArea};
 
 // No shape rule is broken: the words are a grammar, the bytes a matrix of it, and the area a row being read.
 pub fn in_shape(words: &[u16], matrix: &[u8], area: &[u16]) -> bool
@@ -12,4 +16,17 @@ pub fn in_shape(words: &[u16], matrix: &[u8], area: &[u16]) -> bool
         return false;
     }
     shape::area_in_shape(area, words[0], words[1])
+}
+
+// Starts a row: checks 15 (of the grammar and the matrix), 7, 8, 9, 10 and 11, and writes the row's words into the area, over whatever
+// stood there. Words beyond them are untouched; where it refuses, all are.
+pub fn start(words: &[u16], matrix: &[u8], tokens: &[u16], cuts: &[u16], area: &mut [u16]) -> Answer
+    ensures answers { λ r. ⌜ r ≡ startAnswer (now (words .entry)) (now (matrix .entry)) (now (tokens .entry)) (now (cuts .entry)) (length (now (area .entry))) ⌝ }
+    ensures leaves { λ _. ⌜ now (area .exit) ≡ startArea (now (words .entry)) (now (matrix .entry)) (now (tokens .entry)) (now (cuts .entry)) (now (area .entry)) ⌝ }
+{
+    if let Answer::Refused(refusal) = begin::check(words, matrix, tokens, cuts, area.len()) {
+        return Answer::Refused(refusal);
+    }
+    begin::write(area, tokens, cuts);
+    Answer::Done
 }

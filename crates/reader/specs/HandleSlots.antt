@@ -2,10 +2,10 @@
 -- the left side that replaces it covers just these slots, and its value is their span.
 -- Document 01, "Moves of a chunk": "the handle runs from the topmost marked one to the top, with the nonterminal just below that mark
 -- if there is one"; "The report": "rule, first place, place after the last".
--- Rests on KeptAround and MoveWords, on area's Tiling and on machine's Allowed.
+-- Rests on KeptAround, Readings and MoveWords, on area's Tiling and on machine's Allowed.
 --
 -- Main definitions: SomeHandle, Covers.
--- Main statements: stack-words, stack-slots, stack-marks, upper-stands; handle-splits, handle-marks, no-marks, some-marks; handle-covers,
+-- Main statements: stack-words, stack-slots, stack-marks, upper-stands; handle-splits, handle-marks, marks-none, marks-some; handle-covers,
 -- reductions-fit.
 use mathlib.Core.Path.{_≡_, refl, sym, ap, _∙_}
 use mathlib.Core.Bool.{true, false}
@@ -21,13 +21,14 @@ use Rattle.machine.specs.Entries.{Unread, terminalAt, nonterminalAt, Entry, ter
 use Rattle.machine.specs.RunsEnd.{terminalsOn, MarksFine, fine-nonterminal, fine-unmarked, fine-marked}
 use Rattle.machine.specs.Spans.{spanOf}
 use Rattle.machine.specs.States.{State, live}
-use Rattle.machine.specs.Allowed.{NoMark, empty-stack, over-unmarked, over-nonterminal, HandleAbove, from-nonterminal, from-mark, up-to-unmarked, up-to-nonterminal, Live}
+use Rattle.machine.specs.Allowed.{HandleAbove, from-nonterminal, from-mark, up-to-unmarked, up-to-nonterminal, Live}
 use Rattle.machine.specs.AllowedExactly.{HandleView, no-handle, a-handle, handle-view}
 use Rattle.area.specs.Layout.{size, stackSize, stackWords, marks, total}
 use Rattle.area.specs.Lengths.{length-stack, stack-size, tiles-end}
 use Rattle.area.specs.Kept.{Lies, first-end, last-end, within, Tiles, tile, symbolsOf, Kept}
 use Rattle.area.specs.Tiling.{tiles-split, tiles-join, tiles-replaced}
 use Rattle.reader.specs.MoveWords.{Stands}
+use Rattle.reader.specs.Readings.{no-marks}
 use Rattle.reader.specs.KeptAround.{stack-tiles, unread-tiles, marks-fine, stack-terminals}
 
 -- ---- a handle on what is below it
@@ -77,28 +78,23 @@ handle-terminals (up-to-unmarked h) (fine-unmarked o) = omega (arith, handle-ter
 handle-terminals (up-to-nonterminal h) (fine-nonterminal o) = handle-terminals h o
 
 -- a stack with no mark has no handle, and one with a mark has one
-pub no-marks : (stack : List (Entry Span)) (above : List (Unread Span)) → marks stack ≡ 0 → handleOf stack above ≡ none
-no-marks [] above h = refl
-no-marks (nonterminalOn k v ∷ stack) above h = no-marks stack (nonterminalAt k v ∷ above) (omega arith)
-no-marks (terminalOn false a v ∷ stack) above h = no-marks stack (terminalAt a v ∷ above) (omega arith)
-no-marks (terminalOn true a v ∷ stack) above h = absurd (omega arith)
+pub marks-none : (stack : List (Entry Span)) (above : List (Unread Span)) → marks stack ≡ 0 → handleOf stack above ≡ none
+marks-none [] above h = refl
+marks-none (nonterminalOn k v ∷ stack) above h = marks-none stack (nonterminalAt k v ∷ above) (omega arith)
+marks-none (terminalOn false a v ∷ stack) above h = marks-none stack (terminalAt a v ∷ above) (omega arith)
+marks-none (terminalOn true a v ∷ stack) above h = absurd (omega arith)
 
 pub record SomeHandle (stack : List (Entry Span)) : Type 0 where
   pub handle : List (Entry Span)
   pub below : List (Entry Span)
   pub above : HandleAbove stack handle below
 
-pub some-marks : (stack : List (Entry Span)) → 0 < marks stack → SomeHandle stack
-some-marks stack h = go (handle-view stack []) refl
+pub marks-some : (stack : List (Entry Span)) → 0 < marks stack → SomeHandle stack
+marks-some stack h = go (handle-view stack [])
   where
-    unmarked-none : {others : List (Entry Span)} → NoMark others → marks others ≡ 0
-    unmarked-none empty-stack = refl
-    unmarked-none (over-unmarked n) = omega (arith, unmarked-none n)
-    unmarked-none (over-nonterminal n) = omega (arith, unmarked-none n)
-
-    go : {found : Option (Handle Span)} → HandleView stack [] found → handleOf stack [] ≡ found → SomeHandle stack
-    go (no-handle n) q = absurd (omega (arith, unmarked-none n))
-    go (a-handle {handle = handle} {found = found} a e) q = record { handle = handle; below = found .below; above = a }
+    go : {found : Option (Handle Span)} → HandleView stack [] found → SomeHandle stack
+    go (no-handle n) = absurd (omega (arith, no-marks n))
+    go (a-handle {handle = handle} {found = found} a e) = record { handle = handle; below = found .below; above = a }
 
 symbols-split : (handle below : List (Entry Span)) → stackSymbols (handle ++ below) ≡ stackSymbols below ++ stackSymbols handle
 symbols-split [] below = sym (append-nil (stackSymbols below))

@@ -1,10 +1,9 @@
 -- What the rules of a state say around one of its chunks: its stack and its unread symbols lie side by side on its slots, its
 -- symbols are in range, no mark stands on a #, and what lies after it.
--- docs/AREA.md, rules (d) to (i).
+-- docs/AREA.md, rules (d) to (g) and (i).
 -- Rests on area's Kept, Lengths, RowCounts and Tiling, and on machine's Allowed.
 --
--- Main statements: symbols-around, stack-tiles, unread-tiles, stack-ranged, unread-ranged, marks-fine, stack-terminals, stuck-around,
--- nothing-live.
+-- Main statements: symbols-around, stack-tiles, unread-tiles, stack-ranged, unread-ranged, marks-fine, stack-terminals, nothing-live.
 use mathlib.Core.Path.{_≡_, refl, ap, _∙_}
 use mathlib.Core.List.{List, [], _∷_, _++_, append-assoc}
 use mathlib.Core.Option.{Option, none, some}
@@ -19,7 +18,7 @@ use Rattle.machine.specs.RunsEnd.{terminalsOn, MarksFine}
 use Rattle.machine.specs.Bounded.{terminalsIn, AllFine, all-fine-cons}
 use Rattle.machine.specs.Allowed.{AllGone, no-number, one-gone, Live}
 use Rattle.area.specs.Layout.{stackSize, total}
-use Rattle.area.specs.Kept.{Tiles, AllInRange, symbolsOf, LastHolds, later-holds, Ending, whole, accepted, StuckFine, AllStuckFine, and-chunk, Kept}
+use Rattle.area.specs.Kept.{Tiles, AllInRange, symbolsOf, LastHolds, later-holds, Ending, whole, accepted, Kept}
 use Rattle.area.specs.Lengths.{stack-size, symbols-size, tiles-end}
 use Rattle.area.specs.RowCounts.{holds-some}
 use Rattle.area.specs.Tiling.{Split, tiles-split, ranged-split}
@@ -39,10 +38,6 @@ symbols-append (c ∷ chunks) others = rw (symbols-append chunks others, append-
 fine-at : (chunks : List (Chunk Span)) (c : Chunk Span) (others : List (Chunk Span)) → AllFine (chunks ++ (c ∷ others)) → MarksFine (c .stack)
 fine-at [] c others (all-fine-cons o os) = o
 fine-at (d ∷ chunks) c others (all-fine-cons o os) = fine-at chunks c others os
-
-stuck-at : (chunks : List (Chunk Span)) (c : Chunk Span) (others : List (Chunk Span)) → AllStuckFine (chunks ++ (c ∷ others)) → StuckFine c
-stuck-at [] c others (and-chunk o os) = o
-stuck-at (d ∷ chunks) c others (and-chunk o os) = stuck-at chunks c others os
 
 terminals-at : (chunks : List (Chunk Span)) (c : Chunk Span) (others : List (Chunk Span)) → terminalsOn (c .stack) ≤ terminalsIn (chunks ++ (c ∷ others))
 terminals-at [] c others = omega arith
@@ -113,9 +108,6 @@ module _ {t N n : ℕ} {s : State Span} (k : Kept t N n s) {c : ℕ} (l : Live (
 
   pub marks-fine : MarksFine (l .chunk .stack)
   marks-fine = fine-at (live (l .before)) (l .chunk) (live (l .after)) (rw live-are at (k .fine))
-
-  pub stuck-around : StuckFine (l .chunk)
-  stuck-around = stuck-at (live (l .before)) (l .chunk) (live (l .after)) (rw live-are at (k .stuck-fine))
 
   pub stack-terminals : terminalsOn (l .chunk .stack) ≤ terminalsIn (live (s .chunks))
   stack-terminals = rw live-are (terminals-at (live (l .before)) (l .chunk) (live (l .after)))

@@ -1,7 +1,7 @@
 -- The search for a handle's rule, on words: the right sides in the grammar words against the symbol words of the handle's blocks, where
 -- both stand.
 -- Document 01, "Moves of a chunk", 5: "If a rule has this right side, replace it by the left side of the least such rule".
--- Rests on MoveWords, on language's Words and laws' Least.
+-- Rests on area's Layout, on language's Words and laws' Least.
 --
 -- Main definitions: symbolWords, handleWords, matchWords; Readable, Whole (what the search asks).
 -- Main statements: whole-le, handle-none, handle-cons (the walk up the blocks, step by step).

@@ -5,17 +5,18 @@
 -- Rests on PushLaw, StickLaw, AcceptLaw and ReduceLaw, and on machine's TableOf.
 --
 -- Main definitions: Runs, Leaves (the words that a move leaves, by its rule), Stepped.
--- Main statements: runs-words, rests-words (whether a chunk is at rest, off its row of the table); move-law.
+-- Main statements: runs-words, rests-words (whether a chunk is at rest, off its row of the table); move-law; every-move (no case is left).
 use mathlib.Core.Path.{_≡_, refl, sym, ap, _∙_}
 use mathlib.Core.Bool.{Bool, true, false, _&&_}
 use mathlib.Core.List.{List, [], _∷_, _++_, append-nil, map}
 use mathlib.Core.Option.{Option, none, some}
-use Prim.Native.Nat.{ℕ, _+_, _<_, _≤_}
+use Prim.Native.Nat.{ℕ, zero, suc, _+_, _<_, _≤_}
 use native.Mathlib.Omega.{arith}
+use native.Mathlib.Decide.{decLt}
 use lib.Dec.{eqb}
 use lib.ListN.{length}
 use Rattle.laws.specs.Tests.{eqb-true, and-both}
-use Rattle.language.specs.Symbols.{wordOf, blank, yields, equal, takes}
+use Rattle.language.specs.Symbols.{wordOf, Relation, blank, yields, equal, takes}
 use Rattle.language.specs.Grammar.{leftSide}
 use Rattle.language.specs.Words.{grammarOf}
 use Rattle.language.specs.Matching.{matching}
@@ -34,7 +35,7 @@ use Rattle.area.specs.Kept.{InRange, AllInRange, in-range, Kept}
 use Rattle.reader.specs.MoveWords.{fromOf, headOf, endOf, pushWords, stickWords, acceptWords, reduceWords}
 use Rattle.reader.specs.AroundChunk.{status-word, head-word, end-word, from-word, next-symbol}
 use Rattle.reader.specs.KeptAround.{unread-ranged}
-use Rattle.reader.specs.HandleSlots.{no-marks}
+use Rattle.reader.specs.HandleSlots.{SomeHandle, marks-none, marks-some}
 use Rattle.reader.specs.PushLaw.{push-law}
 use Rattle.reader.specs.StickLaw.{stick-law}
 use Rattle.reader.specs.AcceptLaw.{accept-law, accepting-last}
@@ -50,6 +51,9 @@ pub record Runs (chunk : Chunk Span) : Type 0 where
 
 pub runs-unread : {chunk : Chunk Span} (r : Runs chunk) → chunk .unread ≡ r .next ∷ r .unread
 runs-unread r = ap (λ (c : Chunk Span). c .unread) (r .is)
+
+pub runs-on : {chunk : Chunk Span} → Runs chunk → atRest chunk ≡ false
+runs-on r = ap atRest (r .is)
 
 one-is-running : (status : Status) → statusWord status ≡ 1 → status ≡ running
 one-is-running running e = refl
@@ -220,7 +224,7 @@ module _ (words bytes : List ℕ) where
     by-rule {b} x f i e q (rule-4-stuck h top r o w) = terminal-so x b e h (λ v p. stuck-so notAxiom (terminalAt b v) p (rw (top, r, o, w))) q
     by-rule {b} x f i e q (rule-5 h top r a m) = terminal-so x b e h (λ v p. reduced-so (terminalAt b v) p a (rw (top, r, handle-to a [], append-nil, m))) q
     by-rule {b} x f i e q (rule-5-stuck h top r a m) = terminal-so x b e h (λ v p. stuck-so noRule (terminalAt b v) p (rw (top, r, handle-to a [], append-nil, m))) q
-    by-rule {b} x f i e q (rule-6 h top r z) = terminal-so x b e h (λ v p. pushed-so (terminalOn false b v) p (rw (top, r, no-marks stack [] z))) q
+    by-rule {b} x f i e q (rule-6 h top r z) = terminal-so x b e h (λ v p. pushed-so (terminalOn false b v) p (rw (top, r, marks-none stack [] z))) q
 
   -- the words that a move leaves are those of the state after it
   pub move-law : {t N n : ℕ} {s : State Span} (k : Kept t N n s) (rest : List ℕ) {c : ℕ} (l : Live (s .chunks) c) → t < 256 → Runs (l .chunk) → {area : List ℕ}
@@ -231,3 +235,48 @@ module _ (words bytes : List ℕ) where
       (sym (next-symbol n s rest l (r .next) (r .unread) (runs-unread r)))
       (l .chunks-are ∙ ap (λ (chunk : Chunk Span). l .before ++ (some chunk ∷ l .after)) (r .is))
       m
+
+  -- every move is one of these
+  pub record SomeWords (area : List ℕ) (c : ℕ) (stack : List (Entry Span)) (b : ℕ) : Type 0 where
+    pub left : List ℕ
+    pub leaves : Leaves area c stack b left
+
+  pub every-move : (area : List ℕ) (c : ℕ) (stack : List (Entry Span)) (b : ℕ) → SomeWords area c stack b
+  every-move area c stack b = go (decLt b 256)
+    where
+      matched : {a : ℕ} → b < 256 → topTerminal stack ≡ some a → relationAt bytes a b ≡ takes → (h : SomeHandle stack) (o : Option ℕ)
+          → matching (grammarOf words) (map symbol (stackSymbols (h .handle))) ≡ o → SomeWords area c stack b
+      matched l top r h none m = record { left = _; leaves = rule-5-stuck l top r (h .above) m }
+      matched l top r h (some j) m = record { left = _; leaves = rule-5 l top r (h .above) m }
+
+      taking : {a : ℕ} → b < 256 → topTerminal stack ≡ some a → relationAt bytes a b ≡ takes → (m : ℕ) → marks stack ≡ m → SomeWords area c stack b
+      taking l top r zero q = record { left = _; leaves = rule-6 l top r q }
+      taking l top r (suc m) q =
+          let h = marks-some stack (omega arith) in matched l top r h (matching (grammarOf words) (map symbol (stackSymbols (h .handle)))) refl
+
+      ends : {a : ℕ} → b < 256 → topTerminal stack ≡ some a → relationAt bytes a b ≡ equal → (eqb a 0 && eqb b 0) ≡ true → (w : Bool) → isWhole table stack ≡ w
+          → SomeWords area c stack b
+      ends l top r o true q = record { left = _; leaves = rule-4-last l top r o q }
+      ends l top r o false q = record { left = _; leaves = rule-4-stuck l top r o q }
+
+      equals : {a : ℕ} → b < 256 → topTerminal stack ≡ some a → relationAt bytes a b ≡ equal → (o : Bool) → (eqb a 0 && eqb b 0) ≡ o → SomeWords area c stack b
+      equals l top r true q = ends l top r q (isWhole table stack) refl
+      equals l top r false q = record { left = _; leaves = rule-4-equal l top r q }
+
+      related : (a : ℕ) → b < 256 → topTerminal stack ≡ some a → (r : Relation) → relationAt bytes a b ≡ r → SomeWords area c stack b
+      related a l top blank q = record { left = _; leaves = rule-3 l top q }
+      related a l top yields q = record { left = _; leaves = rule-4-yields l top q }
+      related a l top equal q = equals l top q (eqb a 0 && eqb b 0) refl
+      related a l top takes q = taking l top q (marks stack) refl
+
+      terminal-next : b < 256 → (top : Option ℕ) → topTerminal stack ≡ top → SomeWords area c stack b
+      terminal-next l none q = record { left = _; leaves = rule-2 l q }
+      terminal-next l (some a) q = related a l q (relationAt bytes a b) refl
+
+      nonterminal-next : 256 ≤ b → (on : Bool) → topIsNonterminal stack ≡ on → SomeWords area c stack b
+      nonterminal-next l true q = record { left = _; leaves = rule-1-stuck l q }
+      nonterminal-next l false q = record { left = _; leaves = rule-1 l q }
+
+      go : Dec (b < 256) → SomeWords area c stack b
+      go (yes l) = terminal-next l (topTerminal stack) refl
+      go (no l) = nonterminal-next (omega arith) (topIsNonterminal stack) refl

@@ -1,10 +1,10 @@
 -- What a move reads of an area's words: the topmost terminal of a chunk's stack, whether a nonterminal is on top, whether the
 -- stack is # and an axiom, where the handle starts, and the next live chunk.
 -- Document 01, "Moves of a chunk": "next symbol b and topmost stack terminal a"; "if the top is one too"; "the stack is # and
--- an axiom"; "the handle runs from the
--- topmost marked one to the top, with the nonterminal just below that mark if there is one"; "the next live chunk".
+-- an axiom"; "the handle runs from the topmost marked one to the top, with the nonterminal just below that mark if there is one"; "the
+-- next live chunk".
 -- A reading of a stack is said of every stack that stands in the words.
--- Rests on MoveWords, and on machine's Entries, laws' Least.
+-- Rests on MoveWords, on machine's Entries and Moves, and on laws' Least.
 --
 -- Main definitions: Told, Holds, HasStack; TopIs, NonterminalOnTop, EndAndAxiom, handleBelow, HandleStarts, liveAfter.
 use mathlib.Core.Path.{_≡_}

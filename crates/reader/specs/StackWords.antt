@@ -2,8 +2,8 @@
 -- docs/AREA.md: a stack stands bottom first, each symbol one block.
 -- Rests on MoveWords, ReadWords and BlockWords, and on area's Lengths.
 --
--- Main statements: within-area, top-symbol, top-mark, top-front, top-size, top-start, under, top-cleared; the same on slots: stacked, slot-symbol, slot-mark,
--- slot-start, slot-ends, slot-under.
+-- Main statements: within-area, top-symbol, top-mark, top-front, top-size, top-start, under, top-cleared; the same on
+-- slots: stacked, slot-symbol, slot-mark, slot-start, slot-ends, slot-under.
 use mathlib.Core.Path.{_≡_, refl, ap, _∙_}
 use mathlib.Core.List.{List, _∷_, _++_, append-assoc}
 use Prim.Native.Nat.{ℕ, _+_, _*_, _-_, _≤_}

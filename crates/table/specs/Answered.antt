@@ -26,11 +26,11 @@ use Rattle.table.specs.Search.{foundOf, at-is, nowhere-is}
 use Rattle.table.specs.Laid.{Laid, headed, laid}
 
 module _ {Input : Type 0} (input : Input) where
-  refused : (stage : Stage Input) (later : List (Stage Input)) (v : ℕ) → stage .failsAt input ≡ some v
+  pub refused : (stage : Stage Input) (later : List (Stage Input)) (v : ℕ) → stage .failsAt input ≡ some v
       → checked (stage ∷ later) input ≡ Refused (stage .refusal v)
   refused stage later v e = rw e
 
-  passed : (stage : Stage Input) (later : List (Stage Input)) → stage .failsAt input ≡ none → checked (stage ∷ later) input ≡ checked later input
+  pub passed : (stage : Stage Input) (later : List (Stage Input)) → stage .failsAt input ≡ none → checked (stage ∷ later) input ≡ checked later input
   passed stage later e = rw e
 
   -- where all pass, the first passes and so do the later ones

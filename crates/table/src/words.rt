@@ -22,7 +22,7 @@ pub enum Found {
 }
 
 // The word at place i.
-fn word(words: &[u16], i: usize) -> usize
+pub fn word(words: &[u16], i: usize) -> usize
     requires { ⌜ i < length (now words) ⌝ }
     ensures is { λ r. ⌜ r ≡ word (now (words .entry)) i ⌝ }
     ensures small { λ r. ⌜ r < 65536 ⌝ }
@@ -31,7 +31,7 @@ fn word(words: &[u16], i: usize) -> usize
 }
 
 // The word place at which rule r's body starts.
-fn entry(words: &[u16], r: usize) -> usize
+pub fn entry(words: &[u16], r: usize) -> usize
     requires { ⌜ 4 + r < length (now words) ⌝ }
     ensures is { λ p. ⌜ p ≡ entry (now (words .entry)) r ⌝ }
     ensures small { λ p. ⌜ p < 65536 ⌝ }
@@ -133,7 +133,7 @@ pub fn contents(words: &[u16]) -> Found
 // ---- 3 SYMBOL
 
 // Rule r's body ends where the next starts, the last at the end of the run.
-fn body_end(words: &[u16], r: usize) -> usize
+pub fn body_end(words: &[u16], r: usize) -> usize
     requires { ⌜ Laid (now words) × (r < countR (now words)) ⌝ }
     ensures { λ p. ⌜ p ≡ bodyEnd (now (words .entry)) r ⌝ }
 {

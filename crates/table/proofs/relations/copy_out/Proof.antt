@@ -1,0 +1,60 @@
+-- The table is copied from the front; what stood beyond stands there.
+use mathlib.Core.Path.{_≡_, refl}
+use mathlib.Core.List.{_++_}
+use Prim.Native.Nat.{_-_, _≤_}
+use native.Mathlib.Omega.{arith}
+use lib.ListN.{length, take, drop, length-set}
+use Rattle.table.specs.Filled.{copied-more, copied-whole}
+use Rattle.table.proofs.relations.copy_out.Statement.{statement}
+use Rattle.table.proofs.relations.copy_out.Tie as tie
+
+abbrev Inv-loop : tie.InvT-loop
+Inv-loop matrix₀ table v₀ matrix v = (v ≤ 4096) × (length matrix ≡ length matrix₀) × (matrix ≡ take v table ++ drop v matrix₀)
+
+abbrev μ-loop : tie.MeasureT-loop
+μ-loop matrix₀ table v₀ matrix v = 4096 - v
+
+loop-holds : tie.Need-loop-holds Inv-loop μ-loop
+loop-holds c = (omega arith, refl, refl)
+
+element-copy-out-matrix : tie.Need-element-copy-out-matrix Inv-loop μ-loop
+element-copy-out-matrix c = omega arith
+
+slice-write-matrix : tie.Need-slice-write-matrix Inv-loop μ-loop
+slice-write-matrix c = omega arith
+
+add-v : tie.Need-add-v Inv-loop μ-loop
+add-v c = omega arith
+
+loop-less : tie.Need-loop-less Inv-loop μ-loop
+loop-less c = omega arith
+
+loop-again : tie.Need-loop-again Inv-loop μ-loop
+loop-again c =
+    let s = c .before .before .before in
+    let l = c .before .before .loop in
+    (omega arith, simp length-set (l .inv .1), copied-more (s .args .table .now) (s .args .matrix .now) 4096 (s .pre .1) (s .pre .0) (l .v) (l .matrix) (omega arith) (l .inv .2))
+
+same-length : tie.Need-same-length Inv-loop μ-loop
+same-length c = c .before .loop .inv .1
+
+returns : tie.Need-returns Inv-loop μ-loop
+returns c =
+    let s = c .before .before in
+    let l = c .before .loop in
+    copied-whole (s .args .table .now) (s .args .matrix .now) 4096 (s .pre .1) (s .pre .0) (l .v) (l .matrix) (omega arith) (l .inv .0) (l .inv .2)
+
+pub copy-out-spec : {M : Type 1} → statement M
+copy-out-spec =
+    tie.close
+    (tie.spec
+    Inv-loop
+    μ-loop
+    loop-holds
+    element-copy-out-matrix
+    slice-write-matrix
+    add-v
+    loop-less
+    loop-again
+    same-length
+    returns)

@@ -1,0 +1,74 @@
+-- The walk over the words of one right side, pair by pair.
+-- Document 01, "Sets and matrix": "some right side has a then b, or a, one nonterminal, b", "a then nonterminal D", "nonterminal D
+-- then b".
+-- Rests on Shown, Sided and Edges.
+--
+-- Main statements: pair-at (what code asks of a pair), walk-step, walk-end (what the walk has shown).
+use mathlib.Core.Path.{_≡_, sym, ap, _∙_, subst}
+use mathlib.Core.Bool.{false}
+use mathlib.Core.List.{List, _∷_}
+use Prim.Native.Nat.{ℕ, suc, _+_, _-_, _≤_, _<_}
+use native.Mathlib.Omega.{arith}
+use native.Mathlib.Numerals.{add-one}
+use lib.ListN.{length, getD, take, drop, length-map}
+use lib.Seq.{slice, slice-cons, length-slice, drop-drop}
+use Rattle.language.specs.Symbols.{Symbol, symbolOf, Relation}
+use Rattle.language.specs.Grammar.{ruleAt}
+use Rattle.language.specs.Words.{word, countR, entry, bodyEnd, rightWords, grammarOf}
+use Rattle.language.specs.Checks.{Passed}
+use Rattle.table.specs.declared.relations.Relations.{Relations}
+use Rattle.table.specs.Laid.{within}
+use Rattle.table.specs.Rules.{right-of}
+use Rattle.table.specs.Forms.{symbolsIn}
+use Rattle.table.specs.Sided.{part-at, passed-laid, side-rules}
+use Rattle.table.specs.Edges.{right-side}
+use Rattle.table.specs.SetPasses.{AreSets}
+use Rattle.table.specs.Shown.{Adds, here, anywhere, pairShown, Neighbours, neighbours, Paired, paired, pair-adds, Walked, walked-step, walked-end}
+
+module _ (words : List ℕ) (passed : Passed words) (r : ℕ) (h : r < countR words) where
+  abbrev start : ℕ
+  start = suc (entry words r)
+
+  abbrev end : ℕ
+  end = bodyEnd words r
+
+  fits : end ≤ length words
+  fits = within words (passed-laid words passed) r h
+
+  neighbours-at : (p : ℕ) → start ≤ p → p + 1 < end → Neighbours (slice p end words)
+  neighbours-at p l k =
+      let long = length-slice start end words fits in
+      let e : start + (p - start) ≡ p = omega arith in
+      subst Neighbours (drop-drop (p - start) start (take end words) ∙ ap (λ (i : ℕ). drop i (take end words)) e)
+      (neighbours (rightWords words r) (right-side (side-rules words passed false) r h) (p - start) (omega arith))
+
+  module _ (p : ℕ) (l : start ≤ p) (k : p + 1 < end) where
+    first : getD (slice p end words) 0 0 ≡ word words p
+    first = let e : p + 0 ≡ p = omega arith in part-at words p end 0 (omega arith) ∙ ap (word words) e
+
+    second : getD (slice p end words) 1 0 ≡ word words (p + 1)
+    second = part-at words p end 1 (omega arith)
+
+    pub pair-at : Paired (word words p) (word words (p + 1)) (getD (slice p end words) 2 0)
+    pair-at = rw (first, second) at (paired (neighbours-at p l k))
+
+    front : symbolsIn words p end ≡ symbolOf (word words p) ∷ symbolsIn words (p + 1) end
+    front = rw (slice-cons p end words 0 (omega arith) fits, add-one p)
+
+    -- what the pair at p shows is added, and the walk goes on behind p
+    module _ (left right : List ℕ) (sets : AreSets (grammarOf words) left right) {whole : List Symbol} {before rows after : Relations} where
+      pub walk-step : Walked (grammarOf words) whole (symbolsIn words p end) before rows
+          → after ≡ pairShown left right (word words p) (word words (p + 1)) (getD (slice p end words) 2 0) rows
+          → Walked (grammarOf words) whole (symbolsIn words (p + 1) end) before after
+      walk-step walked e =
+          let adds = pair-adds (grammarOf words) left right sets rows (walked .rows) (neighbours-at p l k) in
+          walked-step (subst (λ (w : List Symbol). Walked (grammarOf words) whole w before rows) front walked)
+          (subst (λ (w : List Symbol). Adds (λ (m : Relation) (a b : ℕ). here (grammarOf words) m a b w) rows after) front
+          (rw (e, ← first, ← second) adds))
+
+  -- at the end the whole right side is shown
+  pub walk-end : (p : ℕ) {before rows : Relations} → end ≤ p + 1 → Walked (grammarOf words) (symbolsIn words start end) (symbolsIn words p end) before rows
+      → Adds (λ k a b. anywhere (here (grammarOf words) k a b) (ruleAt (grammarOf words) r .right)) before rows
+  walk-end p {before} {rows} l walked =
+      subst (λ (w : List Symbol). Adds (λ (m : Relation) (a b : ℕ). anywhere (here (grammarOf words) m a b) w) before rows) (sym (right-of words r h))
+      (walked-end walked (omega (arith, length-map (slice p end words) symbolOf, length-slice p end words fits)))

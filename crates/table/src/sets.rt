@@ -1,0 +1,104 @@
+// The left and right sets of all nonterminals as masks. Document 01, "Sets and matrix".
+// The right sets mirror the left sets: everything here looks at right sides from their start, or from their end.
+use crate::words;
+ghost use mathlib.Core.Path.{_≡_};
+ghost use Prim.Native.Nat.{_≤_, _<_};
+ghost use lib.ListN.{length, getD};
+ghost use lib.Seq.{slice};
+ghost use Rattle.language.specs.Words.{countR, grammarOf};
+ghost use Rattle.language.specs.Checks.{Passed};
+ghost use Rattle.table.specs.Laid.{Laid};
+ghost use Rattle.table.specs.Sided.{turned, sided, sideWords};
+ghost use Rattle.table.specs.Edges.{Edged};
+ghost use Rattle.table.specs.SetPasses.{brought, gained, Sound, Members, Changed, Grown};
+
+// The two outermost words of a right side seen from one side, 0 where there is none.
+struct Edge {
+    near: usize,
+    next: usize,
+}
+
+// Word i, counted from that side, of the words from `start` to `end`; 0 where there is none.
+pub fn word_from(words: &[u16], start: usize, end: usize, i: usize, from_end: bool) -> usize
+    requires { ⌜ (start ≤ end) × (end ≤ length (now words)) ⌝ }
+    ensures { λ w. ⌜ w ≡ getD (turned «from_end» (slice start end (now (words .entry)))) i 0 ⌝ }
+{
+    if end - start <= i {
+        return 0;
+    }
+    if from_end {
+        return words::word(words, end - 1 - i);
+    }
+    words::word(words, start + i)
+}
+
+// The edge of rule r's right side.
+fn edge_of(words: &[u16], r: usize, from_end: bool) -> Edge
+    requires { ⌜ Laid (now words) × (r < countR (now words)) ⌝ }
+    ensures { λ e. ⌜ (e .near ≡ getD (sideWords (now (words .entry)) «from_end» r) 0 0) × (e .next ≡ getD (sideWords (now (words .entry)) «from_end» r) 1 0) ⌝ }
+{
+    let start = words::entry(words, r) + 1;
+    let end = words::body_end(words, r);
+    Edge {
+        near: word_from(words, start, end, 0, from_end),
+        next: word_from(words, start, end, 1, from_end),
+    }
+}
+
+// What a right side with this edge brings to the set of its left side: its outermost terminal, and all of the set of a
+// nonterminal before that.
+fn brought(masks: &[u64; 64], edge: Edge) -> u64
+    requires { ⌜ Edged (edge .near) (edge .next) ⌝ }
+    ensures { λ r. ⌜ r ≡ brought (now (masks .entry)) (edge .near) (edge .next) ⌝ }
+{
+    let near = edge.near;
+    let next = edge.next;
+    if near < 256 {
+        return 1u64 << near;
+    }
+    1u64 << next | masks[near - 256]
+}
+
+// Rule r brings to the set of its left side what it can, given the sets so far: whether that set has changed.
+fn gain(words: &[u16], masks: &mut [u64; 64], r: usize, from_end: bool) -> bool
+    requires { ⌜ Passed (now words) × (r < countR (now words)) × (length (now masks) ≡ 64) ⌝ }
+    ensures is { λ b. ⌜ now (masks .exit) ≡ gained (now (words .entry)) «from_end» (now (masks .entry)) r ⌝ }
+    ensures changed { λ b. ⌜ Changed (now (masks .entry)) (now (masks .exit)) b ⌝ }
+{
+    let left = words::word(words, words::entry(words, r));
+    let old = masks[left];
+    let new = old | brought(masks, edge_of(words, r, from_end));
+    masks[left] = new;
+    new != old
+}
+
+// One pass over the rules: whether a set has changed.
+fn pass(words: &[u16], masks: &mut [u64; 64], from_end: bool) -> bool
+    requires { ⌜ Passed (now words) × Sound (sided «from_end» (grammarOf (now words))) (now masks) ⌝ }
+    ensures sound { λ b. ⌜ Sound (sided «from_end» (grammarOf (now (words .entry)))) (now (masks .exit)) ⌝ }
+    ensures grown { λ b. ⌜ Grown (gained (now (words .entry)) «from_end») (now (masks .entry)) (now (masks .exit)) (countR (now (words .entry))) b ⌝ }
+{
+    let rules = words::word(words, 3);
+    let mut changed = false;
+    let mut r: usize = 0;
+    while r < rules {
+        if gain(words, masks, r, from_end) {
+            changed = true;
+        }
+        r += 1;
+    }
+    changed
+}
+
+// The left sets of all nonterminals, or the right sets: passes from empty sets until one changes nothing.
+pub fn masks(words: &[u16], from_end: bool) -> [u64; 64]
+    requires { ⌜ Passed (now words) ⌝ }
+    ensures { λ r. ⌜ Members (sided «from_end» (grammarOf (now (words .entry)))) r ⌝ }
+{
+    let mut masks = [0u64; 64];
+    loop {
+        if !pass(words, &mut masks, from_end) {
+            return masks;
+        }
+    }
+}
