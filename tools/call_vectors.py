@@ -23,7 +23,6 @@ from grugalash_reference.refusal import Refused  # noqa: E402
 from random_rows import K, random_cuts, random_grammar, random_row  # noqa: E402
 
 BYTES = 5000
-WORDS = 115100
 
 
 def sum_of(run):
@@ -70,12 +69,10 @@ def set_case(words, k, side):
 def start_case(words, tokens, cuts, room, at, value):
     """Load, start a row in an area of nines, and change one word of it."""
     table = bytearray(4096)
-    area = [9] * WORDS
-    part = area[:room]
+    part = [9] * room
     numbers = answer(lambda: matrix.load(words, table))
     numbers += answer(lambda: area_reference.start(words, table, tokens, cuts, part))
-    area[:room] = part
-    numbers.append(sum_of(area))
+    numbers.append(sum_of(part))
     numbers.append(int(area_reference.in_shape(words, table, part)))
     if at < room:
         part[at] = value

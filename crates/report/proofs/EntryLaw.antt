@@ -1,11 +1,10 @@
 -- The two answers of `entry_tokens`: the part of an entry that stands, and the part of no tokens at place 0 otherwise.
 -- Main statements: stands, stands-not.
 use mathlib.Core.Path.{_≡_, refl, sym, ap, _∙_}
-use mathlib.Core.Bool.{Bool, true, false, _&&_}
+use mathlib.Core.Bool.{true, false}
 use mathlib.Core.List.{List, []}
 use Prim.Native.Nat.{ℕ, _+_, _*_, _-_, _≤_}
 use native.Mathlib.Omega.{arith}
-use lib.Dec.{leb}
 use lib.ListN.{length, getD, take, drop}
 use lib.Seq.{slice, take-add, drop-at, length-take-le}
 use Rattle.laws.specs.Tests.{and-both, both-and, false-unless, leb-true, le-leb}

@@ -1,1 +1,4 @@
+pub mod EntryWords
+pub mod Merging
+pub mod OutcomeWords
 pub mod ReportCall

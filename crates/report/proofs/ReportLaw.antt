@@ -1,0 +1,48 @@
+-- The two ways of `report`: 15 where a shape rule is broken, and otherwise the outcome read off the words.
+-- Main statements: refused-state, ready, reported-state.
+use mathlib.Core.Path.{_≡_, sym, _∙_}
+use mathlib.Core.Bool.{Bool, true, false}
+use mathlib.Core.List.{List}
+use Prim.Native.Nat.{ℕ, _<_}
+use lib.ListN.{length, getD}
+use Rattle.language.specs.declared.Refusal.the-variants.{BadState}
+use Rattle.language.specs.declared.ReportAnswer.{ReportAnswer}
+use Rattle.language.specs.declared.ReportAnswer.the-variants.{Refused}
+use Rattle.machine.specs.States.{refusedRow, outcome}
+use Rattle.area.specs.Layout.{decode}
+use Rattle.area.specs.Shape.{inShape}
+use Rattle.area.specs.InShape.{in-shape-holds}
+use Rattle.report.specs.ReportCall.{reportOutcome, reportAnswer, reportOut}
+use Rattle.report.specs.OutcomeWords.{wordsOutcome, Reportable, outcome-words, reportable}
+use Rattle.report.proofs.OutcomeLaw.{Answered, refuses}
+
+module _ (words matrix area : List ℕ) where
+  abbrev InShape : Bool → Type 0
+  InShape b = b ≡ inShape words matrix area
+
+  -- the report's answer and run
+  abbrev Reported : List ℕ → ReportAnswer → List ℕ → Type 0
+  Reported out answer last = (answer ≡ reportAnswer words matrix area (length out)) × (last ≡ reportOut words matrix area out)
+
+  bad-state : inShape words matrix area ≡ false → reportOutcome words matrix area ≡ refusedRow BadState
+  unfolding reportOutcome
+  bad-state e = rw (e, reportOutcome)
+
+  good-state : inShape words matrix area ≡ true → reportOutcome words matrix area ≡ outcome (decode area)
+  unfolding reportOutcome
+  good-state e = rw (e, reportOutcome)
+
+  pub refused-state : {b : Bool} (out : List ℕ) → InShape b → b ≡ false → Reported out (Refused BadState) out
+  unfolding reportAnswer reportOut
+  refused-state out i e = refuses out (bad-state (sym i ∙ e))
+
+  module _ (low : getD area 2 0 < 65536) {b : Bool} (i : InShape b) (e : b ≡ true) where
+    pub ready : Reportable area
+    ready = reportable area (in-shape-holds words matrix area low (sym i ∙ e))
+
+    read-off : wordsOutcome area ≡ reportOutcome words matrix area
+    read-off = sym (good-state (sym i ∙ e) ∙ outcome-words area (in-shape-holds words matrix area low (sym i ∙ e)))
+
+    pub reported-state : (out : List ℕ) {answer : ReportAnswer} {last : List ℕ} → Answered (wordsOutcome area) out answer last → Reported out answer last
+    unfolding reportAnswer reportOut
+    reported-state out {answer} {last} a = rw read-off at a
