@@ -1,0 +1,11 @@
+pub mod AnswerLines
+pub mod Ascii
+pub mod Decimals
+pub mod FedLimits
+pub mod Feeding
+pub mod LineFed
+pub mod LineRead
+pub mod ReadingLaws
+pub mod Readings
+pub mod TextFed
+pub mod TextSamples
