@@ -1,4 +1,5 @@
-// One move of a chunk, by document 01's rules 1 to 6: the tests of the words in their order, and the one change that each ends in.
+// One move of a chunk, by document 01's rules 1 to 6: the tests of the words in their order, and the one change that each ends in; and
+// the moves of a run.
 use crate::moves;
 use crate::moves::Matched;
 use crate::moves::Top;
@@ -8,6 +9,7 @@ ghost use lib.ListN.{length, getD};
 ghost use Rattle.language.specs.Words.{countR, entry, word};
 ghost use Rattle.area.specs.Layout.{slotsAt};
 ghost use Rattle.reader.specs.OneMove.{Movable};
+ghost use Rattle.reader.specs.RunMoves.{Runnable, RanWords};
 ghost use Rattle.reader.specs.Moved.{Moved, Facing, Compared, Takes, Taking, HasLeft, liveIn, restsIn};
 
 // Whether number c is live.
@@ -143,4 +145,20 @@ pub fn make_move(words: &[u16], matrix: &[u8], area: &mut [u16], c: usize)
         return;
     }
     moves::push(area, c, 0);
+}
+
+// Moves of chunk c, a live one, until so many are made or it rests; how many were made.
+pub fn make_moves(words: &[u16], matrix: &[u8], area: &mut [u16], c: usize, budget: u32) -> u32
+    requires { ⌜ Runnable (now words) (now matrix) (now area) c ⌝ }
+    ensures { λ made. ⌜ RanWords (now (words .entry)) (now (matrix .entry)) (now (area .entry)) c budget made (now (area .exit)) ⌝ }
+{
+    let mut made: u32 = 0;
+    while made < budget {
+        if at_rest(area, c) {
+            return made;
+        }
+        make_move(words, matrix, area, c);
+        made += 1;
+    }
+    made
 }

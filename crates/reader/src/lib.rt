@@ -5,8 +5,9 @@ mod moves;
 use crate::moves::Next;
 use language::Answer;
 use language::Refusal;
+use language::RunAnswer;
 ghost use mathlib.Core.Path.{_≡_};
-ghost use Rattle.reader.specs.Calls.{stepAnswer, stepArea, joinAnswer, joinArea};
+ghost use Rattle.reader.specs.Calls.{stepAnswer, stepArea, runAnswer, runArea, joinAnswer, joinArea};
 
 // One move of a chunk: checks 15, 12 and 13. Where it refuses, the area is untouched.
 pub fn step(words: &[u16], matrix: &[u8], area: &mut [u16], chunk: usize) -> Answer
@@ -24,6 +25,23 @@ pub fn step(words: &[u16], matrix: &[u8], area: &mut [u16], chunk: usize) -> Ans
     }
     calls::make_move(words, matrix, area, chunk);
     Answer::Done
+}
+
+// Moves of a chunk until `budget` are made or it rests, and how many were made: checks 15, 12 and 13. Where it refuses, the area is untouched.
+pub fn run(words: &[u16], matrix: &[u8], area: &mut [u16], chunk: usize, budget: u32) -> RunAnswer
+    ensures answers { λ r. ⌜ r ≡ runAnswer (now (words .entry)) (now (matrix .entry)) (now (area .entry)) chunk budget ⌝ }
+    ensures leaves { λ _. ⌜ now (area .exit) ≡ runArea (now (words .entry)) (now (matrix .entry)) (now (area .entry)) chunk budget ⌝ }
+{
+    if !area::in_shape(words, matrix, area) {
+        return RunAnswer::Refused(Refusal::BadState);
+    }
+    if !calls::is_live(area, chunk) {
+        return RunAnswer::Refused(Refusal::NoChunk);
+    }
+    if calls::at_rest(area, chunk) {
+        return RunAnswer::Refused(Refusal::AtRest);
+    }
+    RunAnswer::Moves(calls::make_moves(words, matrix, area, chunk, budget))
 }
 
 // Joins a chunk to the next live one: checks 15, 12 and 14. Where it refuses, the area is untouched.

@@ -1,0 +1,68 @@
+-- `calls::make_moves` meets its contract: the loop's invariant: so many moves of the run are made (`Underway`). The measure is what is left of the budget.
+use mathlib.Core.Path.{_≡_, refl, sym, _∙_}
+use Prim.Native.Nat.{_-_}
+use native.Mathlib.Omega.{arith}
+use lib.ListN.{length}
+use Rattle.reader.specs.RunMoves.{Runnable, Underway, underway, underway-listed, underway-movable, underway-more, underway-rests, underway-spent}
+use Rattle.reader.proofs.calls.make_moves.Statement.{statement}
+use Rattle.reader.proofs.calls.make_moves.Tie as tie
+
+abbrev Inv-loop : tie.InvT-loop
+Inv-loop words matrix area₀ c budget made₀ area made = ((m : Runnable words matrix area₀ c) → Underway words matrix m budget made area) × (length area ≡ length area₀)
+
+abbrev μ-loop : tie.MeasureT-loop
+μ-loop words matrix area₀ c budget made₀ area made = budget - made
+
+loop-holds : tie.Need-loop-holds Inv-loop μ-loop
+loop-holds c = ((λ m. underway m (c .before .before .before .args .budget)), refl)
+
+at-rest-requires : tie.Need-at-rest-requires Inv-loop μ-loop
+at-rest-requires c κs = underway-listed (c .before .before .loop .inv .0 (c .before .before .before .before .before .before .pre))
+
+same-length : tie.Need-same-length Inv-loop μ-loop
+same-length c = c .before .before .before .before .loop .inv .1
+
+returns : tie.Need-returns Inv-loop μ-loop
+returns c = record { found = λ m. underway-rests (c .before .before .before .before .loop .inv .0 m) (sym (c .before .at-rest .ensures) ∙ c .if1 .taken) }
+
+make-move-requires : tie.Need-make-move-requires Inv-loop μ-loop
+make-move-requires c κs =
+    underway-movable (c .before .before .before .before .before .loop .inv .0 (c .before .before .before .before .before .before .before .before .before .pre))
+    (sym (c .before .before .at-rest .ensures) ∙ c .before .if1 .left)
+
+add-made : tie.Need-add-made Inv-loop μ-loop
+add-made c = omega (arith, c .before .before .before .before .before .before .before .loop-test .taken)
+
+loop-less : tie.Need-loop-less Inv-loop μ-loop
+loop-less c = omega (arith, c .before .before .before .before .before .before .before .loop-test .taken)
+
+loop-again : tie.Need-loop-again Inv-loop μ-loop
+loop-again c =
+    let l = c .before .before .before .before .before .before .before .before .loop in (
+      λ m. underway-more (l .inv .0 m) (c .before .before .before .before .before .before .before .loop-test .taken)
+          (sym (c .before .before .before .before .before .at-rest .ensures) ∙ c .before .before .before .before .if1 .left) (c .before .before .make-move .ensures),
+      c .before .before .make-move .kept .1 .1 .0 ∙ l .inv .1,
+    )
+
+same-length-2 : tie.Need-same-length-2 Inv-loop μ-loop
+same-length-2 c = c .before .loop .inv .1
+
+returns-2 : tie.Need-returns-2 Inv-loop μ-loop
+returns-2 c = record { found = λ m. underway-spent (c .before .loop .inv .0 m) (c .loop-test .left) }
+
+pub make-moves-spec : {M : Type 1} → statement M
+make-moves-spec =
+    tie.close
+    (tie.spec
+    Inv-loop
+    μ-loop
+    loop-holds
+    at-rest-requires
+    same-length
+    returns
+    make-move-requires
+    add-made
+    loop-less
+    loop-again
+    same-length-2
+    returns-2)
