@@ -1,0 +1,1 @@
+// Demands 2 and 3 over the definitions that the public contracts cite, and the starred samples: theory alone, in specs/.
