@@ -4,7 +4,7 @@
 -- Main statements: headed; rows-fit, row-fails; sized-of; scan-more, side-few; blank-more; countable, line-within.
 use Prim.Native.Nat.{ℕ, zero, suc, _+_, _*_, _-_, _/_, _%_, _<_, _≤_}
 use mathlib.Core.Path.{_≡_, refl, sym, ap, _∙_}
-use mathlib.Core.Bool.{Bool, true, false, false≢true}
+use mathlib.Core.Bool.{Bool, true, false, not, _&&_, false≢true}
 use mathlib.Core.List.{List, [], _∷_}
 use native.Mathlib.Omega.{arith}
 use native.Mathlib.Nat.{mul-le-mul-right, mul-le-mul-left}
@@ -12,7 +12,7 @@ use native.Mathlib.Decide.{decLe}
 use lib.ListN.{length, getD, drop}
 use lib.Dec.{leb, ltb, eqb, lit<}
 use lib.Seq.{drop-drop, getD-drop}
-use borrow.Author.Tests.{leb-true, eqb-true, ne-eqb, lt-leb, le-leb}
+use borrow.Author.Tests.{leb-true, eqb-true, ne-eqb, lt-leb, le-leb, not-true, not-false}
 use Rattle.laws.specs.Tests.{all, upTo, each-all, all-each, upTo-below, below-upTo, false-unless, not-both}
 use Rattle.laws.specs.Picks.{pick, allOf, each-of}
 use Rattle.language.specs.declared.Refusal.{Refusal}
@@ -27,16 +27,13 @@ use Rattle.area.specs.declared.shape.Walk.{Walk}
 use Rattle.area.specs.Layout.{need, slotsAt}
 use Rattle.area.specs.Shape.{isDone, ruleA, grammarInShape, byteFits, ruleB, ruleC, symbolFits, placeFits, tag, oneIfTerminal, broken, opened, inner, scanSlot, scanned, freshScan, side, boundsFit, statusFits, goneFits, sidesFit, fallen, counted, liveLine, lineOf, blank}
 use Rattle.area.specs.WordsOfShape.{rule-a-exactly}
+use Rattle.area.proofs.Joined.{kept2, left2}
 use Rattle.area.specs.ShapeCode.{rowFits, Sized, Few, Within, Countable}
 
 -- what holds of both values holds of the one picked
 picked : {A : Type 0} (P : A → Type 0) (b : Bool) {x y : A} → (b ≡ true → P x) → (b ≡ false → P y) → P (pick b x y)
 picked P true f g = f refl
 picked P false f g = g refl
-
-pub all-one : (b : Bool) → b ≡ allOf (b ∷ [])
-all-one true = refl
-all-one false = refl
 
 pub tag-some : (k l : ℕ) → (k ≡ 0 → ⊥) → tag k l ≡ 0
 tag-some zero l h = absurd (h refl)
@@ -299,3 +296,20 @@ product-below a b ha hb =
     let i : a ≤ 65535 = omega arith in
     let j : b ≤ 65535 = omega arith in
     omega (arith, mul-le-mul-right b i, mul-le-mul-left 65535 j)
+
+-- ---- a live chunk's row, from the values that the code holds
+
+module _ (t n : ℕ) (area : List ℕ) (w : Walk) (x f h e y : ℕ) {p q : Bool} (status : p ≡ statusFits x) (bounds : q ≡ boundsFit (getD area 0 0) (w .at) f h e) where
+  pub line-unfit : not (p && q) ≡ true → fallen ≡ liveLine t n area w x f h e y
+  line-unfit k = sym (left2 _ _ status bounds k)
+
+  module _ (k : not (p && q) ≡ false) {stack unread : Scan} {r : Bool} (ss : stack ≡ side t n area f h) (us : unread ≡ side t n area h e)
+      (rs : r ≡ sidesFit stack unread x h e y) where
+    sides : r ≡ sidesFit (side t n area f h) (side t n area h e) x h e y
+    sides = rw (ss, us) at rs
+
+    pub sides-unfit : not r ≡ true → fallen ≡ liveLine t n area w x f h e y
+    sides-unfit j = sym (kept2 _ _ status bounds k ∙ simp (sym sides ∙ not-true r j))
+
+    pub line-fit : not r ≡ false → counted w stack unread x e ≡ liveLine t n area w x f h e y
+    line-fit j = rw (ss, us) (sym (kept2 _ _ status bounds k ∙ simp (sym sides ∙ not-false r j)))

@@ -1,5 +1,6 @@
 // The shape rules of docs/AREA.md, checked in one pass over the lent words and bytes.
 // Each function is one definition of specs/Shape.antt, of which its contract is the equation.
+// Tests are joined by `&` and `|`, so that a function of many tests has one way through it.
 use language::Answer;
 ghost use mathlib.Core.Path.{_≡_};
 ghost use Prim.Native.Nat.{_+_, _*_, _-_, _≤_, _<_, _^_, pred};
@@ -55,10 +56,7 @@ fn long(x: u16) -> u64
 fn byte_fits(t: u16, a: u16, b: u16, x: u8) -> bool
     ensures { λ r. ⌜ r ≡ byteFits t a b x ⌝ }
 {
-    if t < a {
-        return x == 0;
-    }
-    if t < b {
+    if (t < a) | (t < b) {
         return x == 0;
     }
     if a == 0 {
@@ -68,10 +66,7 @@ fn byte_fits(t: u16, a: u16, b: u16, x: u8) -> bool
         return x <= 1;
     }
     if b == 0 {
-        if x == 0 {
-            return true;
-        }
-        return x == 3;
+        return (x == 0) | (x == 3);
     }
     x <= 3
 }
@@ -132,19 +127,11 @@ fn sized(area: &[u16]) -> bool
     }
     let tokens = area[0];
     let count = area[1];
-    if tokens < 1 {
-        return false;
-    }
-    if 16384 < tokens {
-        return false;
-    }
-    if count < 1 {
-        return false;
-    }
-    if 64 < count {
-        return false;
-    }
-    7 * wide(tokens) + 5 * wide(count) + 13 <= len
+    (1 <= tokens)
+        & (tokens <= 16384)
+        & (1 <= count)
+        & (count <= 64)
+        & (7 * wide(tokens) + 5 * wide(count) + 13 <= len)
 }
 
 // ---- (f) one side of a chunk
@@ -154,22 +141,7 @@ fn symbol_fits(t: u16, n: u16, s: u16, m: u16) -> bool
     requires { ⌜ n ≤ 64 ⌝ }
     ensures { λ r. ⌜ r ≡ symbolFits t n s m ⌝ }
 {
-    if m == 0 {
-        if s <= t {
-            return true;
-        }
-        if s < 256 {
-            return false;
-        }
-        return s < 256 + n;
-    }
-    if m == 1 {
-        if s == 0 {
-            return false;
-        }
-        return s <= t;
-    }
-    false
+    ((m == 0) & ((s <= t) | (!(s < 256) & (s < 256 + n)))) | ((m == 1) & (s != 0) & (s <= t))
 }
 
 // Symbol s of l slots at this slot: # in slots 0 and n+1 and nowhere else, one slot long.
@@ -177,22 +149,8 @@ fn place_fits(tokens: u16, slot: u16, s: u16, l: u16) -> bool
     requires { ⌜ tokens ≤ 16384 ⌝ }
     ensures { λ r. ⌜ r ≡ placeFits tokens slot s l ⌝ }
 {
-    if slot == 0 {
-        if s == 0 {
-            return l == 1;
-        }
-        return false;
-    }
-    if slot == tokens + 1 {
-        if s == 0 {
-            return l == 1;
-        }
-        return false;
-    }
-    if s == 0 {
-        return false;
-    }
-    wide(slot) + wide(l) <= wide(tokens) + 1
+    let edge = (slot == 0) | (slot == tokens + 1);
+    (edge & (s == 0) & (l == 1)) | (!edge & (s != 0) & (wide(slot) + wide(l) <= wide(tokens) + 1))
 }
 
 // The last word of a slot, k slots before the end of its symbol, which has l slots.
@@ -244,13 +202,8 @@ fn open_symbol(
     if l == 0 {
         return break_off();
     }
-    if !symbol_fits(t, n, s, m) {
-        return break_off();
-    }
-    if !place_fits(tokens, slot, s, l) {
-        return break_off();
-    }
-    if b != tag_of(l - 1, l) {
+    let fits = symbol_fits(t, n, s, m) & place_fits(tokens, slot, s, l) & (b == tag_of(l - 1, l));
+    if !fits {
         return break_off();
     }
     let more = one_if_terminal(s);
@@ -269,16 +222,8 @@ fn inside(st: Scan, s: u16, m: u16, l: u16, b: u16) -> Scan
     requires { ⌜ 0 < st .within ⌝ }
     ensures { λ r. ⌜ r ≡ inner st s m l b ⌝ }
 {
-    if s != 0 {
-        return break_off();
-    }
-    if m != 0 {
-        return break_off();
-    }
-    if l != 0 {
-        return break_off();
-    }
-    if b != tag_of(st.within - 1, st.size) {
+    let fits = (s == 0) & (m == 0) & (l == 0) & (b == tag_of(st.within - 1, st.size));
+    if !fits {
         return break_off();
     }
     Scan {
@@ -354,10 +299,7 @@ fn side(area: &[u16], t: u16, n: u16, from: u16, to: u16) -> Scan
 fn side_fits(st: Scan) -> bool
     ensures { λ r. ⌜ r ≡ sideFits st ⌝ }
 {
-    if st.ok {
-        return st.within == 0;
-    }
-    false
+    st.ok & (st.within == 0)
 }
 
 // ---- (d) to (h) of one chunk
@@ -379,16 +321,7 @@ fn status_fits(x: u16) -> bool
 fn gone_fits(f: u16, h: u16, e: u16, y: u16) -> bool
     ensures { λ r. ⌜ r ≡ goneFits f h e y ⌝ }
 {
-    if f != 0 {
-        return false;
-    }
-    if h != 0 {
-        return false;
-    }
-    if e != 0 {
-        return false;
-    }
-    y == 0
+    (f == 0) & (h == 0) & (e == 0) & (y == 0)
 }
 
 // (e) From is the end of the live chunk before it and at most n+1; from, head, end in order, the end at most n+2.
@@ -396,54 +329,25 @@ fn bounds_fit(tokens: u16, at: u16, f: u16, h: u16, e: u16) -> bool
     requires { ⌜ tokens ≤ 16384 ⌝ }
     ensures { λ r. ⌜ r ≡ boundsFit tokens at f h e ⌝ }
 {
-    if f != at {
-        return false;
-    }
-    if tokens + 1 < f {
-        return false;
-    }
-    if h < f {
-        return false;
-    }
-    if e < h {
-        return false;
-    }
-    e <= tokens + 2
+    (f == at) & (f <= tokens + 1) & (f <= h) & (h <= e) & (e <= tokens + 2)
 }
 
 // (h) A stuck chunk has something unread, one stuck with 18 has a mark.
 fn stuck_fits(x: u16, h: u16, e: u16, y: u16) -> bool
     ensures { λ r. ⌜ r ≡ stuckFits x h e y ⌝ }
 {
-    if x == 1 {
-        return true;
-    }
-    if h < e {
-        if x == 18 {
-            return 1 <= y;
-        }
-        return true;
-    }
-    false
+    (x == 1) | ((h < e) & ((x != 18) | (1 <= y)))
 }
 
 // (f), (g) and (h) of a live chunk, from the scans of its stack and of its unread side.
 fn sides_fit(stack: Scan, unread: Scan, x: u16, h: u16, e: u16, y: u16) -> bool
     ensures { λ r. ⌜ r ≡ sidesFit stack unread x h e y ⌝ }
 {
-    if !side_fits(stack) {
-        return false;
-    }
-    if !side_fits(unread) {
-        return false;
-    }
-    if unread.marks != 0 {
-        return false;
-    }
-    if y != stack.marks {
-        return false;
-    }
-    stuck_fits(x, h, e, y)
+    side_fits(stack)
+        & side_fits(unread)
+        & (unread.marks == 0)
+        & (y == stack.marks)
+        & stuck_fits(x, h, e, y)
 }
 
 // A walk that has met a wrong row.
@@ -490,11 +394,9 @@ fn live_line(area: &[u16], t: u16, n: u16, w: Walk, x: u16, f: u16, h: u16, e: u
     requires { ⌜ (n ≤ 64) × Sized (now area) × Within 63 w ⌝ }
     ensures { λ r. ⌜ r ≡ liveLine t n (now (area .entry)) w x f h e y ⌝ }
 {
-    if !status_fits(x) {
-        return fall();
-    }
     let at = w.at;
-    if !bounds_fit(area[0], at, f, h, e) {
+    let fits = status_fits(x) & bounds_fit(area[0], at, f, h, e);
+    if !fits {
         return fall();
     }
     let stack = side(area, t, n, f, h);
@@ -564,10 +466,7 @@ fn first_fits(area: &[u16]) -> bool
     requires { ⌜ Sized (now area) ⌝ }
     ensures { λ r. ⌜ r ≡ firstFits (now (area .entry)) ⌝ }
 {
-    if area[5] == 0 {
-        return false;
-    }
-    1 <= area[7]
+    (area[5] != 0) & (1 <= area[7])
 }
 
 // (e) The last live chunk's end is n+2, or n+1 if chunk 0 is the only live chunk and its head is n+1.
@@ -577,16 +476,7 @@ fn end_fits(area: &[u16], w: Walk) -> bool
 {
     let tokens = area[0];
     let head = area[7];
-    if w.at == tokens + 2 {
-        return true;
-    }
-    if w.at != tokens + 1 {
-        return false;
-    }
-    if w.live != 1 {
-        return false;
-    }
-    head == tokens + 1
+    (w.at == tokens + 2) | ((w.at == tokens + 1) & (w.live == 1) & (head == tokens + 1))
 }
 
 // (i) The reductions made and the terminals other than # are at most n.
@@ -662,10 +552,8 @@ fn rule_k(area: &[u16], w: Walk) -> bool
     let tokens = wide(area[0]);
     let base = 5 + 5 * wide(area[1]);
     let made = base + 4 * (tokens + 2);
-    if blank(area, base + 4 * wide(w.at), made) {
-        return blank(area, made + 3 * wide(area[4]), made + 3 * tokens);
-    }
-    false
+    blank(area, base + 4 * wide(w.at), made)
+        & blank(area, made + 3 * wide(area[4]), made + 3 * tokens)
 }
 
 // (d) to (k), from a walk of the table.
@@ -673,22 +561,12 @@ fn walk_fits(area: &[u16], w: Walk) -> bool
     requires { ⌜ Sized (now area) ⌝ }
     ensures { λ r. ⌜ r ≡ walkFits (now (area .entry)) w ⌝ }
 {
-    if !w.ok {
-        return false;
-    }
-    if !first_fits(area) {
-        return false;
-    }
-    if !end_fits(area, w) {
-        return false;
-    }
-    if !rule_i(area, w) {
-        return false;
-    }
-    if !rule_j(area, w) {
-        return false;
-    }
-    rule_k(area, w)
+    w.ok
+        & first_fits(area)
+        & end_fits(area, w)
+        & rule_i(area, w)
+        & rule_j(area, w)
+        & rule_k(area, w)
 }
 
 // The area keeps the shape rules, of a grammar with t terminals and n nonterminals.

@@ -1,20 +1,10 @@
--- `shape::gone_fits` meets its contract: the tests of `goneFits` one after another.
-use borrow.Author.Tests.{eq-eqb, ne-eqb}
-use Rattle.area.proofs.ShapeLaw.{all-one}
+-- `shape::gone_fits` meets its contract: the tests of `goneFits`, joined.
+use Rattle.area.proofs.Joined.{gone-tests}
 use Rattle.area.proofs.shape.gone_fits.Statement.{statement}
 use Rattle.area.proofs.shape.gone_fits.Tie as tie
 
 returns : tie.Need-returns
-returns c = simp (ne-eqb _ _ (c .if1 .taken))
-
-returns-2 : tie.Need-returns-2
-returns-2 c = simp (eq-eqb _ _ (c .before .if1 .left), ne-eqb _ _ (c .if2 .taken))
-
-returns-3 : tie.Need-returns-3
-returns-3 c = simp (eq-eqb _ _ (c .before .before .if1 .left), eq-eqb _ _ (c .before .if2 .left), ne-eqb _ _ (c .if3 .taken))
-
-returns-4 : tie.Need-returns-4
-returns-4 c = simp (eq-eqb _ _ (c .before .before .if1 .left), eq-eqb _ _ (c .before .if2 .left), eq-eqb _ _ (c .if3 .left)) (all-one _)
+returns c = gone-tests (c .args .f) (c .args .h) (c .args .e) (c .args .y)
 
 pub gone-fits-spec : {M : Type 1} → statement M
-gone-fits-spec = tie.close (tie.spec returns returns-2 returns-3 returns-4)
+gone-fits-spec = tie.close (tie.spec returns)

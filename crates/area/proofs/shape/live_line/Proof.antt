@@ -1,30 +1,23 @@
 -- `shape::live_line` meets its contract: the tests of `liveLine` one after another; sides within the slots have counts that can be added.
-use mathlib.Core.Path.{sym, ap₂, _∙_}
-use borrow.Author.Tests.{not-true, not-false}
-use Rattle.area.specs.declared.shape.Scan.{Scan}
-use Rattle.area.specs.Shape.{sidesFit, counted}
+use mathlib.Core.Path.{sym, _∙_}
 use native.Mathlib.Omega.{arith}
 use Prim.Native.Nat.{_+_, _≤_}
 use lib.ListN.{getD}
-use Rattle.area.proofs.ShapeLaw.{Bounded, bounded-of, countable}
+use Rattle.area.proofs.ShapeLaw.{Bounded, bounded-of, countable, line-unfit, sides-unfit, line-fit}
+use Rattle.area.proofs.Joined.{second-kept}
 use borrow.Author.Needs.{needs}
 use Rattle.area.proofs.shape.live_line.Statement.{statement}
 use Rattle.area.proofs.shape.live_line.Tie as tie
 
 -- past the test of the bounds
-bounded : (c : tie.Else2) → let a = c .before .before .before .before .before .before .args in Bounded (getD (a .area .now) 0 0) (a .w .at) (a .f) (a .h) (a .e)
+bounded : (c : tie.Else1) → let a = c .before .before .before .before .before .args in Bounded (getD (a .area .now) 0 0) (a .w .at) (a .f) (a .h) (a .e)
 bounded c =
-    let a = c .before .before .before .before .before .before .args in
-    bounded-of (getD (a .area .now) 0 0) (a .w .at) (a .f) (a .h) (a .e) (sym (c .before .bounds-fit .ensures) ∙ not-false _ (c .if2 .left))
+    let a = c .before .before .before .before .before .args in
+    let kept = second-kept (c .before .before .before .status-fits .result) (c .before .bounds-fit .result) (c .if1 .left) in
+    bounded-of (getD (a .area .now) 0 0) (a .w .at) (a .f) (a .h) (a .e) (sym (c .before .bounds-fit .ensures) ∙ kept)
 
 status-fits-requires : tie.Need-status-fits-requires
 status-fits-requires c κs = search needs
-
-fall-requires : tie.Need-fall-requires
-fall-requires c κs = search needs
-
-returns : tie.Need-returns
-returns c = simp (sym (c .before .before .status-fits .ensures) ∙ not-true _ (c .before .if1 .taken)) (c .fall .ensures)
 
 shared-slice-read-bounds-fit : tie.Need-shared-slice-read-bounds-fit
 shared-slice-read-bounds-fit c = search needs
@@ -32,72 +25,66 @@ shared-slice-read-bounds-fit c = search needs
 bounds-fit-requires : tie.Need-bounds-fit-requires
 bounds-fit-requires c κs = search needs
 
-fall-requires-2 : tie.Need-fall-requires-2
-fall-requires-2 c κs = search needs
+fall-requires : tie.Need-fall-requires
+fall-requires c κs = search needs
 
-returns-2 : tie.Need-returns-2
-returns-2 c =
-    simp (
-      sym (c .before .before .before .before .before .status-fits .ensures) ∙ not-false _ (c .before .before .before .before .if1 .left),
-      sym (c .before .before .bounds-fit .ensures) ∙ not-true _ (c .before .if2 .taken),
-    ) (c .fall2 .ensures)
+returns : tie.Need-returns
+returns c =
+    let a = c .before .before .before .before .before .before .args in
+    c .fall .ensures ∙ line-unfit (a .t) (a .n) (a .area .now) (a .w) (a .x) (a .f) (a .h) (a .e) (a .y) (c .before .before .before .before .status-fits .ensures) (c .before .before .bounds-fit .ensures) (c .before .if1 .taken)
 
 side-requires : tie.Need-side-requires
 side-requires c κs =
-    let a = c .before .before .before .before .before .before .args in
+    let a = c .before .before .before .before .before .args in
     let p = bounded c in
     let low : a .h ≤ getD (a .area .now) 0 0 + 2 = omega arith in
-    (c .before .before .before .before .before .before .pre .0, c .before .before .before .before .before .before .pre .1, low)
+    (c .before .before .before .before .before .pre .0, c .before .before .before .before .before .pre .1, low)
 
 side-requires-2 : tie.Need-side-requires-2
 side-requires-2 c κs =
-    let pre = c .before .before .before .before .before .before .before .pre in
+    let pre = c .before .before .before .before .before .before .pre in
     (pre .0, pre .1, bounded (c .before) .last)
 
 sides-fit-requires : tie.Need-sides-fit-requires
 sides-fit-requires c κs = search needs
 
-fall-requires-3 : tie.Need-fall-requires-3
-fall-requires-3 c κs = search needs
+fall-requires-2 : tie.Need-fall-requires-2
+fall-requires-2 c κs = search needs
 
-returns-3 : tie.Need-returns-3
-returns-3 c = let a = c .before .before .before .before .before .before .before .before .before .before .before .args in
-    simp (
-      sym (c .before .before .before .before .before .before .before .before .before .status-fits .ensures) ∙ not-false _ (c .before .before .before .before .before .before .before .before .if1 .left),
-      sym (c .before .before .before .before .before .before .bounds-fit .ensures) ∙ not-false _ (c .before .before .before .before .before .if2 .left),
-      ap₂ (λ (s u : Scan). sidesFit s u (a .x) (a .h) (a .e) (a .y)) (sym (c .before .before .before .before .side .ensures)) (sym (c .before .before .before .side2 .ensures)) ∙ (sym (c .before .before .sides-fit .ensures) ∙ not-true _ (c .before .if3 .taken)),
-    ) (c .fall3 .ensures)
+returns-2 : tie.Need-returns-2
+returns-2 c =
+    let a = c .before .before .before .before .before .before .before .before .before .before .args in
+    c .fall2 .ensures
+    ∙ sides-unfit (a .t) (a .n) (a .area .now) (a .w) (a .x) (a .f) (a .h) (a .e) (a .y) (c .before .before .before .before .before .before .before .before .status-fits .ensures) (c .before .before .before .before .before .before .bounds-fit .ensures) (c .before .before .before .before .before .if1 .left)
+    (c .before .before .before .before .side .ensures) (c .before .before .before .side2 .ensures) (c .before .before .sides-fit .ensures) (c .before .if2 .taken)
 
 count-in-requires : tie.Need-count-in-requires
 count-in-requires c κs =
-    let start = c .before .before .before .before .before .before .before .before .before .before in
+    let start = c .before .before .before .before .before .before .before .before .before in
     let a = start .args in
     rw (c .before .before .before .side .ensures, c .before .before .side2 .ensures)
     (countable (a .t) (a .n) (a .area .now) (start .pre .1) 63 (a .w) (start .pre .2) (a .x) (a .f) (a .h) (a .e) (a .y) (bounded (c .before .before .before .before)))
 
-returns-4 : tie.Need-returns-4
-returns-4 c = let a = c .before .before .before .before .before .before .before .before .before .before .before .args in
-    simp (
-      sym (c .before .before .before .before .before .before .before .before .before .status-fits .ensures) ∙ not-false _ (c .before .before .before .before .before .before .before .before .if1 .left),
-      sym (c .before .before .before .before .before .before .bounds-fit .ensures) ∙ not-false _ (c .before .before .before .before .before .if2 .left),
-      ap₂ (λ (s u : Scan). sidesFit s u (a .x) (a .h) (a .e) (a .y)) (sym (c .before .before .before .before .side .ensures)) (sym (c .before .before .before .side2 .ensures)) ∙ (sym (c .before .before .sides-fit .ensures) ∙ not-false _ (c .before .if3 .left)),
-    ) (c .count-in .ensures ∙ ap₂ (λ (s u : Scan). counted (a .w) s u (a .x) (a .e)) (c .before .before .before .before .side .ensures) (c .before .before .before .side2 .ensures))
+returns-3 : tie.Need-returns-3
+returns-3 c =
+    let a = c .before .before .before .before .before .before .before .before .before .before .args in
+    c .count-in .ensures
+    ∙ line-fit (a .t) (a .n) (a .area .now) (a .w) (a .x) (a .f) (a .h) (a .e) (a .y) (c .before .before .before .before .before .before .before .before .status-fits .ensures) (c .before .before .before .before .before .before .bounds-fit .ensures) (c .before .before .before .before .before .if1 .left)
+    (c .before .before .before .before .side .ensures) (c .before .before .before .side2 .ensures) (c .before .before .sides-fit .ensures) (c .before .if2 .left)
 
 pub live-line-spec : {M : Type 1} → statement M
 live-line-spec =
     tie.close
     (tie.spec
     status-fits-requires
-    fall-requires
-    returns
     shared-slice-read-bounds-fit
     bounds-fit-requires
-    fall-requires-2
-    returns-2
+    fall-requires
+    returns
     side-requires
     side-requires-2
     sides-fit-requires
-    fall-requires-3
-    returns-3
+    fall-requires-2
+    returns-2
     count-in-requires
-    returns-4)
+    returns-3)

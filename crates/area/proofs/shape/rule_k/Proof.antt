@@ -1,9 +1,10 @@
 -- `shape::rule_k` meets its contract: the two stretches of `ruleK`.
-use mathlib.Core.Path.{_≡_, sym, _∙_}
+use mathlib.Core.Path.{_≡_}
 use native.Mathlib.Omega.{arith}
 use Prim.Native.Nat.{_+_, _*_, _-_}
 use lib.ListN.{getD}
 use Rattle.area.specs.Layout.{madeAtWord}
+use Rattle.area.proofs.Joined.{k-tests}
 use borrow.Author.Needs.{needs}
 use Rattle.area.proofs.shape.rule_k.Statement.{statement}
 use Rattle.area.proofs.shape.rule_k.Tie as tie
@@ -70,23 +71,16 @@ blank-requires-2 c κs = search needs
 
 returns : tie.Need-returns
 returns c =
-    let xs = c .before .before .before .before .before .before .before .before .before .before .before .args .area .now in
+    let a = c .before .before .before .before .before .before .before .before .before .before .args in
+    let xs = a .area .now in
     let n = getD xs 0 0 in
     let m = getD xs 4 0 in
-    let count = c .before .before .before .before .before .before .wide2 .ensures .0 in
-    let tokens = c .before .before .before .before .before .before .before .before .wide .ensures .0 in
-    let at = c .before .before .before .before .before .wide3 .ensures .0 in
+    let count = c .before .before .before .before .before .wide2 .ensures .0 in
+    let tokens = c .before .before .before .before .before .before .before .wide .ensures .0 in
+    let at = c .before .before .before .before .wide3 .ensures .0 in
     let made = c .before .wide4 .ensures .0 in
     let e : madeAtWord xs + 3 * n - (madeAtWord xs + 3 * m) ≡ 3 * (n - m) = omega arith in
-    simp (simp (tokens, count, at) at (sym (c .before .before .before .before .blank .ensures) ∙ c .before .before .before .if1 .taken))
-    (rw e at (simp (tokens, count, made) at (c .blank2 .ensures)))
-
-returns-2 : tie.Need-returns-2
-returns-2 c =
-    let count = c .before .before .before .wide2 .ensures .0 in
-    let tokens = c .before .before .before .before .before .wide .ensures .0 in
-    let at = c .before .before .wide3 .ensures .0 in
-    simp (simp (tokens, count, at) at (sym (c .before .blank .ensures) ∙ c .if1 .left))
+    k-tests xs (a .w) (simp (tokens, count, at) at (c .before .before .before .blank .ensures)) (rw e at (simp (tokens, count, made) at (c .blank2 .ensures)))
 
 pub rule-k-spec : {M : Type 1} → statement M
 rule-k-spec =
@@ -112,5 +106,4 @@ rule-k-spec =
     mul-blank-3
     add-blank-3
     blank-requires-2
-    returns
-    returns-2)
+    returns)
