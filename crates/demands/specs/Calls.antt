@@ -63,7 +63,7 @@ abbrev pub areaAfter : List ℕ → List ℕ → List Call → List ℕ
 areaAfter words area [] = area
 areaAfter words area (call ∷ calls) = areaAfter words (callArea words area call) calls
 
--- "steps accepted + answers of runs + joins accepted"
+-- steps accepted, answers of runs and joins accepted, together
 abbrev pub movesMade : List ℕ → List ℕ → List Call → ℕ
 movesMade words area [] = 0
 movesMade words area (call ∷ calls) = callMade words area call + movesMade words (callArea words area call) calls

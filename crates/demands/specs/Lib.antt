@@ -1,6 +1,11 @@
 pub mod Calls
+pub mod Demands
+pub mod Finishing
+pub mod MoveDemand
 pub mod OnWords
 pub mod OwnMatrix
+pub mod ParseDemand
 pub mod Reached
+pub mod SameReport
 pub mod Standing
 pub mod Starred

@@ -4,15 +4,14 @@
 -- Rests on reader's Calls, report's ReportCall, and area's InShape and Decode.
 --
 -- Main statements: step-is, run-is, join-is, report-is (the calls), leaves (the words afterwards).
-use mathlib.Core.Path.{_≡_, refl, sym, ap, _∙_}
+use mathlib.Core.Path.{_≡_, refl, ap}
 use mathlib.Core.Bool.{true}
 use mathlib.Core.List.{List, _++_}
-use Prim.Native.Nat.{ℕ, _<_}
+use Prim.Native.Nat.{ℕ}
 use native.Mathlib.Omega.{arith}
-use lib.ListN.{length, getD, drop}
+use lib.ListN.{length, drop}
 use Rattle.laws.specs.Parts.{drop-past}
 use Rattle.language.specs.Trees.{Span}
-use Rattle.language.specs.Words.{countT}
 use Rattle.machine.specs.States.{State, step, run, join, outcome}
 use Rattle.machine.specs.TableOf.{tableOf}
 use Rattle.area.specs.Layout.{need, encode, decode}
@@ -56,5 +55,6 @@ module _ (words matrix : List ℕ) (grammar : grammarInShape words matrix ≡ tr
   -- the words of another state in its place
   pub leaves : (s′ : State Span) → withState area s′ ≡ encode n s′ ++ rest
   leaves s′ =
-      let beyond : drop (need n (length (s .chunks))) area ≡ rest = drop-past area 0 (need n (length (s .chunks))) (encode n s) rest (omega (arith, encode-length safe)) refl in
+      let beyond : drop (need n (length (s .chunks))) area ≡ rest =
+      drop-past area 0 (need n (length (s .chunks))) (encode n s) rest (omega (arith, encode-length safe)) refl in
       rw (tokens-at n s rest, chunks-at n s rest, beyond)

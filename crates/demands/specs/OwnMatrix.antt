@@ -4,17 +4,15 @@
 -- Rests on Calls, on language's Loads and Matrix, machine's TableOf, and area's EndMarkOfShape.
 --
 -- Main definition: ownTable. Main statements: own-bytes, own-shape, own-end-mark, own-laws, table-is.
-use mathlib.Core.Path.{_≡_, refl, sym, ap, subst, _∙_}
+use mathlib.Core.Path.{_≡_, sym, ap, subst, _∙_}
 use mathlib.Core.Bool.{true}
 use mathlib.Core.List.{List, [], _++_, append-nil}
 use Prim.Native.Nat.{ℕ, _≤_}
-use native.Mathlib.Omega.{arith}
 use lib.ListN.{length, take, drop, take-append-drop}
 use lib.Seq.{take-at}
 use lib.Dec.{ltb}
 use Rattle.language.specs.declared.Answer.the-variants.{Done}
-use Rattle.language.specs.Symbols.{Relation}
-use Rattle.language.specs.Grammar.{Grammar, leftSide}
+use Rattle.language.specs.Grammar.{leftSide}
 use Rattle.language.specs.Words.{countA, grammarOf}
 use Rattle.language.specs.Matching.{matching}
 use Rattle.language.specs.Matrix.{matrixOf, matrix-length}
@@ -72,8 +70,8 @@ module _ (words bytes : List ℕ) (loads : loadAnswer words (length bytes) ≡ D
   module _ (matrix : List ℕ) (own : OfLoad words bytes matrix) where
     pub own-bytes : matrix ≡ matrixOf (grammarOf words) ++ drop 4096 matrix
     own-bytes =
-        sym (take-append-drop 4096 matrix)
-        ∙ ap (λ l. l ++ drop 4096 matrix) (own ∙ ap (λ l. take 4096 l) left ∙ take-at (matrixOf (grammarOf words)) (drop 4096 bytes) 4096 (matrix-length (grammarOf words)))
+        let first = take-at (matrixOf (grammarOf words)) (drop 4096 bytes) 4096 (matrix-length (grammarOf words)) in
+        sym (take-append-drop 4096 matrix) ∙ ap (λ l. l ++ drop 4096 matrix) (own ∙ ap (λ l. take 4096 l) left ∙ first)
 
     -- 15 is not given to such a matrix
     pub shape-is : grammarInShape words matrix ≡ true

@@ -5,22 +5,22 @@
 -- Since the list of calls is any list, what is said of the next call is said of every call of every list.
 -- Rests on Standing, and on machine's Bounded and Counts.
 --
--- Main statements: never-15, refused-changes-nothing, report-never-15, moves-counted, moves-few.
-use mathlib.Core.Path.{_≡_, refl, sym, ap, subst, _∙_}
+-- Main definition: EachRight. Main statements: each-right, never-15, refused-changes-nothing, report-never-15, moves-counted, moves-few;
+-- in-shape-there, low-there.
+use mathlib.Core.Path.{_≡_, refl, sym, ap, _∙_}
 use mathlib.Core.Bool.{Bool, true, false}
 use mathlib.Core.Logic.{_⊎_, inl, inr}
-use mathlib.Core.List.{List, [], _∷_, _++_}
-use Prim.Native.Nat.{ℕ, zero, suc, _+_, _*_, _-_, _≤_, _<_}
+use mathlib.Core.List.{List, [], _∷_}
+use Prim.Native.Nat.{ℕ, suc, _+_, _*_, _%_, _≤_, _<_}
 use native.Mathlib.Omega.{arith}
 use lib.Dec.{eqb, ltb}
 use lib.ListN.{length, getD}
 use Rattle.laws.specs.Tests.{eqb-true}
 use Rattle.language.specs.declared.Refusal.{Refusal}
-use Rattle.language.specs.declared.Refusal.the-variants.{Unfinished, NoRoom}
-use Rattle.language.specs.declared.ReportAnswer.{ReportAnswer}
+use Rattle.language.specs.declared.Refusal.the-variants.{Unfinished}
 use Rattle.language.specs.declared.ReportAnswer.the-variants as report
 use Rattle.language.specs.Refusals.{numberOf, reportNumber}
-use Rattle.language.specs.Words.{countT, too-low}
+use Rattle.language.specs.Words.{too-low}
 use Rattle.language.specs.Trees.{Span, Reduction}
 use Rattle.machine.specs.Moves.{Stuck, noRelation, noRule, notAxiom, sideBySide}
 use Rattle.machine.specs.States.{State, Outcome, refusedRow, reported, refusalOf, outcome}
@@ -29,14 +29,14 @@ use Rattle.machine.specs.Answers.{outcomeAnswer}
 use Rattle.machine.specs.Bounded.{mostMoves, bounded}
 use Rattle.machine.specs.Counts.{moves-since-start}
 use Rattle.machine.specs.GivenExactly.{outcome-refuses}
-use Rattle.area.specs.Layout.{encode}
-use Rattle.area.specs.Encoded.{moves-at}
+use Rattle.area.specs.Encoded.{moves-at, low-moves-at}
+use Rattle.area.specs.Shape.{inShape}
 use Rattle.area.specs.Start.{StartInput, Startable, wrong-token}
 use Rattle.report.specs.ReportCall.{reportOutcome, reportAnswer}
-use Rattle.demands.specs.Calls.{Call, matrixFor, callNumber, callMade, callArea, areaAfter, movesMade, countIn, OfLoad, AllOfLoad, Begun}
+use Rattle.demands.specs.Calls.{Call, matrixFor, callNumber, callMade, callArea, areaAfter, movesMade, countIn, OfLoad, AllOfLoad, no-call, and-call, Begun}
 use Rattle.demands.specs.OwnMatrix.{ownTable, own-end-mark, accepted, shape-is}
-use Rattle.demands.specs.OnWords.{report-is}
-use Rattle.demands.specs.Standing.{Standing, CallView, refused-so, moved-so, startable, standing-safe, standing-view, standing-after}
+use Rattle.demands.specs.OnWords.{stands, report-is}
+use Rattle.demands.specs.Standing.{Standing, CallView, refused-so, moved-so, startable, standing-begun, standing-safe, standing-view, standing-call, standing-after}
 
 -- no token of a row that starts is #
 tokens-no-end : (tokens : List ℕ) → ((i : ℕ) → i < length tokens → getD tokens i 0 < 1 → ⊥) → NoEnd tokens
@@ -70,7 +70,8 @@ outcome-number s room = go (outcome s) refl
     written entries moves true q = number-11 (rw (q, outcomeAnswer))
     written entries moves false q = number-0 (rw (q, outcomeAnswer))
 
-    of : (refusal : Refusal) → (refusal ≡ Unfinished) ⊎ ((why : Stuck) × (place : ℕ) × (refusal ≡ refusalOf why place)) → OutcomeNumber (refusedRow refusal) room
+    of : (refusal : Refusal) → (refusal ≡ Unfinished) ⊎ ((why : Stuck) × (place : ℕ) × (refusal ≡ refusalOf why place))
+        → OutcomeNumber (refusedRow refusal) room
     of refusal (inl e) = number-16 (ap refusedRow e) (ap numberOf e)
     of refusal (inr (why, place, e)) =
         let n = stuck-number why place in
@@ -81,30 +82,49 @@ outcome-number s room = go (outcome s) refl
     go (refusedRow refusal) q = of refusal (outcome-refuses s refusal q)
     go (reported entries moves) q = written entries moves (ltb room (3 * length entries)) refl
 
+-- each call of a list: it does not answer 15, and where it is refused the area stays as it is
+pub data EachRight (words : List ℕ) : List ℕ → List Call → Type 0 where
+  no-more : {area : List ℕ} → EachRight words area []
+  and-right : {area : List ℕ} {call : Call} {calls : List Call} → (callNumber words area call ≡ 15 → ⊥)
+      → ((callNumber words area call ≡ 0 → ⊥) → callArea words area call ≡ area) → EachRight words (callArea words area call) calls
+      → EachRight words area (call ∷ calls)
+
+viewed-never-15 : {words : List ℕ} {n : ℕ} {s : State Span} {rest area : List ℕ} {call : Call} → CallView words n s rest area call
+    → callNumber words area call ≡ 15 → ⊥
+viewed-never-15 (refused-so low high none-made same) e = omega arith
+viewed-never-15 (moved-so s′ zero-is is turns) e = omega arith
+
+viewed-stays : {words : List ℕ} {n : ℕ} {s : State Span} {rest area : List ℕ} {call : Call} → CallView words n s rest area call
+    → (callNumber words area call ≡ 0 → ⊥) → (callArea words area call ≡ area) × (callMade words area call ≡ 0)
+viewed-stays (refused-so low high none-made same) h = (same, none-made)
+viewed-stays (moved-so s′ zero-is is turns) h = absurd (h zero-is)
+
+module _ {words bytes tokens cuts area₀ : List ℕ} (begun : Begun words bytes tokens cuts area₀) where
+  right-from : {area : List ℕ} {made : ℕ} → Standing words tokens cuts area made → {calls : List Call} → AllOfLoad words bytes calls
+      → EachRight words area calls
+  right-from h no-call = no-more
+  right-from h (and-call {call = call} of-load all) =
+      let view = standing-view begun h call of-load in
+      and-right (viewed-never-15 view) (λ n. viewed-stays view n .0) (right-from (standing-call begun h call of-load) all)
+
+  -- (a) none answers 15, and a refused one changes nothing: of each call of a list
+  pub each-right : {calls : List Call} → AllOfLoad words bytes calls → EachRight words area₀ calls
+  each-right all = right-from (standing-begun begun) all
+
 module _ {words bytes tokens cuts area₀ : List ℕ} (begun : Begun words bytes tokens cuts area₀) {calls : List Call} (own : AllOfLoad words bytes calls) where
   abbrev area : List ℕ
   area = areaAfter words area₀ calls
 
-  abbrev there : Standing words tokens cuts area (movesMade words area₀ calls)
+  abbrev pub there : Standing words tokens cuts area (movesMade words area₀ calls)
   there = standing-after begun own
 
-  -- (a) no call answers 15
+  -- .. and of the next call after it
   pub never-15 : (call : Call) → OfLoad words bytes (matrixFor call) → callNumber words area call ≡ 15 → ⊥
-  never-15 call of-load = go (standing-view begun there call of-load)
-    where
-      go : CallView words (length tokens) (there .state) (there .rest) area call → callNumber words area call ≡ 15 → ⊥
-      go (refused-so low high none-made same) e = omega arith
-      go (moved-so s′ zero-is is turns) e = omega arith
+  never-15 call of-load = viewed-never-15 (standing-view begun there call of-load)
 
-  -- .. and a refused one changes nothing
   pub refused-changes-nothing : (call : Call) → OfLoad words bytes (matrixFor call) → (callNumber words area call ≡ 0 → ⊥)
       → (callArea words area call ≡ area) × (callMade words area call ≡ 0)
-  refused-changes-nothing call of-load = go (standing-view begun there call of-load)
-    where
-      go : CallView words (length tokens) (there .state) (there .rest) area call → (callNumber words area call ≡ 0 → ⊥)
-          → (callArea words area call ≡ area) × (callMade words area call ≡ 0)
-      go (refused-so low high none-made same) h = (same, none-made)
-      go (moved-so s′ zero-is is turns) h = absurd (h zero-is)
+  refused-changes-nothing call of-load = viewed-stays (standing-view begun there call of-load)
 
   module _ (matrix : List ℕ) (of-load : OfLoad words bytes matrix) where
     -- what the report is made of: the state's outcome
@@ -112,6 +132,12 @@ module _ {words bytes tokens cuts area₀ : List ℕ} (begun : Begun words bytes
     report-there =
         ap (λ a. reportOutcome words matrix a) (there .area-is)
         ∙ report-is words matrix (shape-is words bytes (begun .loads) matrix of-load) (standing-safe begun there) (there .rest)
+
+    -- the area keeps the shape rules
+    pub in-shape-there : inShape words matrix area ≡ true
+    in-shape-there =
+        ap (λ a. inShape words matrix a) (there .area-is)
+        ∙ stands words matrix (shape-is words bytes (begun .loads) matrix of-load) (standing-safe begun there) (there .rest)
 
     pub report-number : (room : ℕ) → reportNumber (reportAnswer words matrix area room) ≡ reportNumber (outcomeAnswer (outcome (there .state)) room)
     unfolding reportAnswer
@@ -139,3 +165,9 @@ module _ {words bytes tokens cuts area₀ : List ℕ} (begun : Begun words bytes
       let b = bounded (own-end-mark (accepted words bytes (begun .loads))) tokens cuts (no-end (startable begun)) (there .turns) in
       let z : suc (length cuts) ≡ length cuts + 1 = omega arith in
       rw z at b
+
+  -- its word 2 is one of 16 bits
+  pub low-there : getD area 2 0 < 65536
+  low-there =
+      let e : getD area 2 0 ≡ there .state .moves % 65536 = ap (λ a. getD a 2 0) (there .area-is) ∙ low-moves-at (length tokens) (there .state) (there .rest) in
+      omega arith

@@ -7,8 +7,8 @@
 use mathlib.Core.Path.{_≡_, refl, sym, ap, subst, _∙_}
 use mathlib.Core.Bool.{true}
 use mathlib.Core.Logic.{_⊎_, inl, inr}
-use mathlib.Core.List.{List, [], _∷_, _++_}
-use Prim.Native.Nat.{ℕ, zero, suc, _+_, _*_, _≤_}
+use mathlib.Core.List.{List, _++_}
+use Prim.Native.Nat.{ℕ, suc, _+_, _≤_}
 use native.Mathlib.Omega.{arith}
 use lib.ListN.{length, drop}
 use Rattle.language.specs.declared.Refusal.{Refusal}
@@ -146,14 +146,16 @@ module _ {words bytes tokens cuts area₀ : List ℕ} (begun : Begun words bytes
   pub standing-view : {area : List ℕ} {made : ℕ} (h : Standing words tokens cuts area made) (call : Call) → OfLoad words bytes (matrixFor call)
       → CallView words (length tokens) (h .state) (h .rest) area call
   standing-view h call own =
-      subst (λ a. CallView words (length tokens) (h .state) (h .rest) a call) (sym (h .area-is)) (call-view words bytes (begun .loads) (standing-safe h) (h .rest) call own)
+      subst (λ a. CallView words (length tokens) (h .state) (h .rest) a call) (sym (h .area-is))
+      (call-view words bytes (begun .loads) (standing-safe h) (h .rest) call own)
 
   -- a call keeps it
   pub standing-call : {area : List ℕ} {made : ℕ} → Standing words tokens cuts area made → (call : Call) → OfLoad words bytes (matrixFor call)
       → Standing words tokens cuts (callArea words area call) (made + callMade words area call)
   standing-call {area} {made} h call own = go (standing-view h call own)
     where
-      go : CallView words (length tokens) (h .state) (h .rest) area call → Standing words tokens cuts (callArea words area call) (made + callMade words area call)
+      go : CallView words (length tokens) (h .state) (h .rest) area call
+          → Standing words tokens cuts (callArea words area call) (made + callMade words area call)
       go (refused-so low high none-made same) =
           let z : made + callMade words area call ≡ made = omega arith in
           record { state = h .state; rest = h .rest; area-is = same ∙ h .area-is; turns = rw z (h .turns) }
@@ -168,5 +170,6 @@ module _ {words bytes tokens cuts area₀ : List ℕ} (begun : Begun words bytes
       rw z (standing-from (standing-call h call own) all)
 
   -- .. and so does any list of calls
-  pub standing-after : {calls : List Call} → AllOfLoad words bytes calls → Standing words tokens cuts (areaAfter words area₀ calls) (movesMade words area₀ calls)
+  pub standing-after : {calls : List Call} → AllOfLoad words bytes calls
+      → Standing words tokens cuts (areaAfter words area₀ calls) (movesMade words area₀ calls)
   standing-after {calls} all = let z : 0 + movesMade words area₀ calls ≡ movesMade words area₀ calls = omega arith in rw z at (standing-from standing-begun all)

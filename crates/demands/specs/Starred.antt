@@ -1,15 +1,16 @@
 -- The starred samples of document 01, all of them, as one table under one theorem, computed from the definitions that the contracts cite.
 -- Document 01, "Sample rows": "Cases with * are the proved set"; "How far promises go": "The starred cases are shown from the
 -- definitions as a single table under a single theorem".
--- Rests on language's Loads, area's Start, reader's Calls and ParseCall, and report's ReportCall, and on nothing that was proved of them.
+-- Rests on language's Loads, area's Start, reader's Calls and ParseCall, and report's ReportCall; and on OnWords and OwnMatrix, by which an area's
+-- words are worked out as those of a state, and tests of the whole matrix are passed over.
 --
--- Main definitions: Question, Reply, replyTo, cases. Main statement: starred.
-use mathlib.Core.Path.{_≡_, refl}
+-- Main definitions: Question, Reply, replyTo, cases. Main statements: starred; begun-K.
+use mathlib.Core.Path.{_≡_, refl, ap, _∙_}
 use mathlib.Core.Bool.{true}
-use mathlib.Core.List.{List, [], _∷_, append-nil}
+use mathlib.Core.List.{List, [], _∷_, _++_}
 use mathlib.Core.Option.{Option, none, some}
 use Prim.Native.Nat.{ℕ, _*_}
-use lib.ListN.{length, take}
+use lib.ListN.{length, take, drop, length-replicate}
 use Rattle.language.specs.declared.Answer.{Answer}
 use Rattle.language.specs.declared.Answer.the-variants as answer
 use Rattle.language.specs.declared.SetAnswer.{SetAnswer}
@@ -25,18 +26,23 @@ use Rattle.language.specs.RelationTests.{equalTest, yieldsTest, takesTest, rela
 use Rattle.language.specs.Conflicts.{clash, conflictStage}
 use Rattle.language.specs.Matrix.{matrixOf}
 use Rattle.language.specs.Stages.{Stage, checked}
-use Rattle.language.specs.Loads.{loadAnswer, setChecked, leftSetAnswer, rightSetAnswer, accepted-exactly}
+use Rattle.language.specs.Loads.{Accepted, loadAnswer, loadBytes, setChecked, leftSetAnswer, rightSetAnswer, accepted-exactly}
 use Rattle.language.specs.Trees.{Span}
-use Rattle.machine.specs.Chunks.{Status, running, stuck, Chunk}
-use Rattle.machine.specs.States.{State, refused, became, refusedRun, ran, run, join, start, chunkAt, placeOf, refusalOf, outcome}
-use Rattle.machine.specs.TableOf.{tableOf}
+use Rattle.machine.specs.Chunks.{running, stuck, Chunk}
+use Rattle.machine.specs.States.{State, Called, refused, became, Ran, refusedRun, ran, run, join, start, chunkAt, placeOf, refusalOf, outcome}
+use Rattle.machine.specs.Schedules.{by-join}
 use Rattle.machine.specs.Bounded.{mostMoves}
 use Rattle.machine.specs.Answers.{outcomeAnswer, outcomeOut}
-use Rattle.area.specs.Layout.{need, zeros}
+use Rattle.area.specs.Layout.{need, zeros, encode, decode}
 use Rattle.area.specs.Shape.{grammarInShape}
-use Rattle.area.specs.EndMarkOfShape.{matrix-in-shape}
-use Rattle.area.specs.Start.{StartInput, emptyStage, lengthStage, tokenStage, cutStage, roomStage, startAnswer}
+use Rattle.area.specs.Start.{StartInput, emptyStage, lengthStage, tokenStage, cutStage, roomStage, startAnswer, startedArea, startArea, starts-exactly}
+use Rattle.area.specs.Safe.{Safe, safe-start, safe-turned, safe-run}
+use Rattle.reader.specs.Calls.{withState, calledArea, ranArea, runCall, runArea, joinCall, joinArea}
 use Rattle.reader.specs.ParseCall.{thenStart, parsedAnswer, parsedOut, parseOutcome, parseBegun, parseAnswer, parseOut}
+use Rattle.report.specs.ReportCall.{reportOutcome, reportAnswer, reportOut}
+use Rattle.demands.specs.Calls.{Begun}
+use Rattle.demands.specs.OwnMatrix.{ownTable, own-shape, shape-is, table-is}
+use Rattle.demands.specs.OnWords.{reads, run-is, join-is, report-is, leaves}
 
 -- ---- what a sample asks, and what it says
 
@@ -78,16 +84,21 @@ abbrev ofReport : ReportAnswer → List ℕ → Reply
 ofReport (report.Report entries moves) out = report-of (take (3 * entries) out) moves
 ofReport (report.Refused r) out = refusal (numberOf r) (valueOf r)
 
--- a row cut in two, both chunks moved until at rest; no row of so many tokens outlasts the budget
-abbrev toRest : List ℕ → List ℕ → ℕ → State Span → State Span
-toRest words tokens c s = elim (run (tableOf words (matrixOf (grammarOf words))) c (mostMoves (length tokens) 2) s) [ refusedRun why ↦ s | ran j s′ ↦ s′ ]
+-- the matrix that load leaves
+abbrev pub bytesOf : List ℕ → List ℕ
+bytesOf words = loadBytes words (zeros 4096)
 
-abbrev apart : ℕ → List ℕ → List ℕ → State Span
-apart cut words tokens = toRest words tokens 1 (toRest words tokens 0 (start tokens (cut ∷ [])))
+-- chunk c run until at rest: no row of so many tokens in two chunks outlasts the budget
+abbrev toRest : List ℕ → List ℕ → ℕ → List ℕ → List ℕ
+toRest words tokens c area = runArea words (bytesOf words) area c (mostMoves (length tokens) 2)
+
+-- a row cut in two, both chunks moved until at rest
+abbrev apart : ℕ → List ℕ → List ℕ → List ℕ
+apart cut words tokens = toRest words tokens 1 (toRest words tokens 0 (startArea words (bytesOf words) tokens (cut ∷ []) (zeros (need (length tokens) 2))))
 
 -- then joined, and moved until at rest
-abbrev together : ℕ → List ℕ → List ℕ → State Span
-together cut words tokens = elim (join 0 (apart cut words tokens)) [ refused why ↦ apart cut words tokens | became s ↦ toRest words tokens 0 s ]
+abbrev together : ℕ → List ℕ → List ℕ → List ℕ
+together cut words tokens = toRest words tokens 0 (joinArea words (bytesOf words) (apart cut words tokens) 0)
 
 -- a chunk's refusal, if it is stuck
 abbrev ofChunk : Option (Chunk Span) → Reply
@@ -97,7 +108,7 @@ ofChunk (some chunk) = elim (chunk .status) [
   | stuck why ↦ refusal (numberOf (refusalOf why (placeOf (chunk .unread)))) (valueOf (refusalOf why (placeOf (chunk .unread))))
 ]
 
--- a row of these tokens: the words of the area, and of the report run
+-- the words that the area of an uncut row needs
 abbrev roomFor : List ℕ → ℕ
 roomFor tokens = need (length tokens) 1
 
@@ -108,8 +119,9 @@ replyTo (loaded words) = ofAnswer (loadAnswer words 4096)
 replyTo (uncut words tokens) =
     ofReport (parseAnswer words tokens (roomFor tokens) (3 * length tokens)) (parseOut words tokens (roomFor tokens) (zeros (3 * length tokens)))
 replyTo (cut-at cut words tokens) =
-    ofReport (outcomeAnswer (outcome (together cut words tokens)) (3 * length tokens)) (outcomeOut (outcome (together cut words tokens)) (zeros (3 * length tokens)))
-replyTo (before-join cut words tokens) = ofChunk (chunkAt (apart cut words tokens) 1)
+    ofReport (reportAnswer words (bytesOf words) (together cut words tokens) (3 * length tokens))
+    (reportOut words (bytesOf words) (together cut words tokens) (zeros (3 * length tokens)))
+replyTo (before-join cut words tokens) = ofChunk (chunkAt (decode (apart cut words tokens)) 1)
 
 -- ---- the samples
 
@@ -165,27 +177,136 @@ pub data AllAsSaid : List Case → Type 0 where
 
 -- ---- shown
 
+-- The answers are computed, but for three tests of grammar and matrix that are known to pass once the words load, and for the
+-- words of an area, which are those of the state that the machine's calls, computed, come to.
+
 -- start's stages after the first, which looks at grammar and matrix
 abbrev laterStages : List (Stage StartInput)
 laterStages = emptyStage ∷ lengthStage ∷ tokenStage ∷ cutStage ∷ roomStage ∷ []
 
-abbrev lent : List ℕ → List ℕ → StartInput
-lent words tokens = record { words = words; matrix = matrixOf (grammarOf words); tokens = tokens; cuts = []; room = roomFor tokens }
+abbrev afterRun : Ran Span → State Span → State Span
+afterRun (refusedRun why) s = s
+afterRun (ran j s′) s = s′
 
--- for words that load, parse goes on to start's other stages
+abbrev afterCall : Called Span → State Span → State Span
+afterCall (refused why) s = s
+afterCall (became s′) s = s′
+
 module _ (words : List ℕ) (loads : loadAnswer words 4096 ≡ answer.Done) where
-  shape : grammarInShape words (matrixOf (grammarOf words)) ≡ true
-  shape = rw (append-nil (matrixOf (grammarOf words))) at (matrix-in-shape words (accepted-exactly words 4096 .0 loads .0) [])
+  -- start goes on to its other stages
+  starts : (matrix tokens cuts : List ℕ) (room : ℕ) → grammarInShape words matrix ≡ true → startAnswer words matrix tokens cuts room
+      ≡ checked laterStages (record { words = words; matrix = matrix; tokens = tokens; cuts = cuts; room = room })
+  unfolding startAnswer
+  starts matrix tokens cuts room shape = rw (shape, startAnswer, checked)
 
-  begins : (tokens : List ℕ) → parseBegun words tokens (roomFor tokens) ≡ checked laterStages (lent words tokens)
-  unfolding parseBegun startAnswer
-  begins tokens = rw (loads, thenStart, shape, startAnswer, checked)
+  abbrev acceptedWords : Accepted words
+  acceptedWords = accepted-exactly words 4096 .0 loads .0
+
+  -- uncut rows
+
+  abbrev uncutInput : List ℕ → StartInput
+  uncutInput tokens = record { words = words; matrix = matrixOf (grammarOf words); tokens = tokens; cuts = []; room = roomFor tokens }
+
+  begins : (tokens : List ℕ) → parseBegun words tokens (roomFor tokens) ≡ checked laterStages (uncutInput tokens)
+  unfolding parseBegun
+  begins tokens = rw (loads, thenStart) (starts (matrixOf (grammarOf words)) tokens [] (roomFor tokens) (own-shape acceptedWords))
 
   parses : (tokens : List ℕ) → replyTo (uncut words tokens)
-      ≡ ofReport (parsedAnswer (checked laterStages (lent words tokens)) (parseOutcome words tokens) (3 * length tokens))
-      (parsedOut (checked laterStages (lent words tokens)) (parseOutcome words tokens) (zeros (3 * length tokens)))
+      ≡ ofReport (parsedAnswer (checked laterStages (uncutInput tokens)) (parseOutcome words tokens) (3 * length tokens))
+      (parsedOut (checked laterStages (uncutInput tokens)) (parseOutcome words tokens) (zeros (3 * length tokens)))
   unfolding parseAnswer parseOut
   parses tokens = rw (begins tokens)
+
+  -- cut rows
+
+  loads-so : loadAnswer words (length (zeros 4096)) ≡ answer.Done
+  loads-so = rw (length-replicate {A = ℕ} 4096 0) loads
+
+  grammar : grammarInShape words (bytesOf words) ≡ true
+  grammar = shape-is words (zeros 4096) loads-so (bytesOf words) refl
+
+  -- an area with the words of this state, which keeps the rules
+  record Holding (n : ℕ) (area : List ℕ) (s : State Span) : Type 0 where
+    rest : List ℕ
+    is : area ≡ encode n s ++ rest
+    safe : Safe words n s
+
+  run-holds : {n : ℕ} {area : List ℕ} {s : State Span} → Holding n area s → (c budget : ℕ)
+      → Holding n (runArea words (bytesOf words) area c budget) (afterRun (run (ownTable words) c budget s) s)
+  unfolding runArea
+  run-holds {n} {area} {s} h c budget =
+      go (run (ownTable words) c budget s) refl
+      (ap (λ a. runCall words (bytesOf words) a c budget) (h .is) ∙ run-is words (bytesOf words) grammar (h .safe) (h .rest) c budget
+      ∙ ap (λ t. run t c budget s) (table-is words (zeros 4096) loads-so (bytesOf words) refl))
+    where
+      go : (x : Ran Span) → run (ownTable words) c budget s ≡ x → runCall words (bytesOf words) area c budget ≡ run (ownTable words) c budget s
+          → Holding n (runArea words (bytesOf words) area c budget) (afterRun x s)
+      go (refusedRun why) q is = record { rest = h .rest; is = ap (λ x. ranArea x area) (is ∙ q) ∙ h .is; safe = h .safe }
+      go (ran j s′) q is = record {
+        rest = h .rest;
+        is = ap (λ x. ranArea x area) (is ∙ q) ∙ ap (λ a. withState a s′) (h .is) ∙ leaves words (bytesOf words) grammar (h .safe) (h .rest) s′;
+        safe = safe-run words (matrixOf (grammarOf words)) (own-shape acceptedWords) c budget (h .safe) q;
+      }
+
+  join-holds : {n : ℕ} {area : List ℕ} {s : State Span} → Holding n area s → (c : ℕ)
+      → Holding n (joinArea words (bytesOf words) area c) (afterCall (join c s) s)
+  unfolding joinArea
+  join-holds {n} {area} {s} h c =
+      go (join c s) refl (ap (λ a. joinCall words (bytesOf words) a c) (h .is) ∙ join-is words (bytesOf words) grammar (h .safe) (h .rest) c)
+    where
+      go : (x : Called Span) → join c s ≡ x → joinCall words (bytesOf words) area c ≡ join c s
+          → Holding n (joinArea words (bytesOf words) area c) (afterCall x s)
+      go (refused why) q is = record { rest = h .rest; is = ap (λ x. calledArea x area) (is ∙ q) ∙ h .is; safe = h .safe }
+      go (became s′) q is = record {
+        rest = h .rest;
+        is = ap (λ x. calledArea x area) (is ∙ q) ∙ ap (λ a. withState a s′) (h .is) ∙ leaves words (bytesOf words) grammar (h .safe) (h .rest) s′;
+        safe = safe-turned words (matrixOf (grammarOf words)) (own-shape acceptedWords) (h .safe) (by-join c q);
+      }
+
+  module _ (cut : ℕ) (tokens : List ℕ) where
+    abbrev cutInput : StartInput
+    cutInput = record { words = words; matrix = bytesOf words; tokens = tokens; cuts = cut ∷ []; room = length (zeros (need (length tokens) 2)) }
+
+    abbrev resting : ℕ → State Span → State Span
+    resting c s = afterRun (run (ownTable words) c (mostMoves (length tokens) 2) s) s
+
+    abbrev apartState : State Span
+    apartState = resting 1 (resting 0 (start tokens (cut ∷ [])))
+
+    abbrev togetherState : State Span
+    togetherState = resting 0 (afterCall (join 0 apartState) apartState)
+
+    module _ (can : checked laterStages cutInput ≡ answer.Done) where
+      done : startAnswer words (bytesOf words) tokens (cut ∷ []) (length (zeros (need (length tokens) 2))) ≡ answer.Done
+      done = starts (bytesOf words) tokens (cut ∷ []) (length (zeros (need (length tokens) 2))) grammar ∙ can
+
+      start-holds : Holding (length tokens) (startArea words (bytesOf words) tokens (cut ∷ []) (zeros (need (length tokens) 2))) (start tokens (cut ∷ []))
+      unfolding startArea
+      start-holds = record {
+        rest = drop (need (length tokens) 2) (zeros (need (length tokens) 2));
+        is = ap (λ a. startedArea a tokens (cut ∷ []) (zeros (need (length tokens) 2))) done;
+        safe = safe-start (starts-exactly words (bytesOf words) tokens (cut ∷ []) (length (zeros (need (length tokens) 2))) .0 done);
+      }
+
+      apart-holds : Holding (length tokens) (apart cut words tokens) apartState
+      apart-holds = run-holds (run-holds start-holds 0 (mostMoves (length tokens) 2)) 1 (mostMoves (length tokens) 2)
+
+      together-holds : Holding (length tokens) (together cut words tokens) togetherState
+      together-holds = run-holds (join-holds apart-holds 0) 0 (mostMoves (length tokens) 2)
+
+      reports : replyTo (cut-at cut words tokens)
+          ≡ ofReport (outcomeAnswer (outcome togetherState) (3 * length tokens)) (outcomeOut (outcome togetherState) (zeros (3 * length tokens)))
+      unfolding reportAnswer reportOut
+      reports =
+          let h = together-holds in
+          let o : reportOutcome words (bytesOf words) (together cut words tokens) ≡ outcome togetherState =
+          ap (λ a. reportOutcome words (bytesOf words) a) (h .is) ∙ report-is words (bytesOf words) grammar (h .safe) (h .rest) in
+          ap (λ x. ofReport (outcomeAnswer x (3 * length tokens)) (outcomeOut x (zeros (3 * length tokens)))) o
+
+      rests-on : replyTo (before-join cut words tokens) ≡ ofChunk (chunkAt apartState 1)
+      rests-on =
+          let h = apart-holds in
+          ap (λ s. ofChunk (chunkAt s 1)) (ap decode (h .is) ∙ reads words (bytesOf words) grammar (h .safe) (h .rest))
 
 loads-K : loadAnswer wordsK 4096 ≡ answer.Done
 unfolding loadAnswer conflictStage clash grammarOf leftMember inPlay mirrored equalTest yieldsTest takesTest
@@ -203,8 +324,20 @@ starred =
     (as-said (parses wordsK loads-K (1 ∷ []))
     (as-said (parses wordsK loads-K (1 ∷ 1 ∷ [])) (as-said (parses wordsK loads-K (3 ∷ 1 ∷ 4 ∷ []))
     (as-said (parses wordsK loads-K (2 ∷ [])) (as-said (parses wordsK loads-K (1 ∷ 2 ∷ [])) (as-said (parses wordsK loads-K (3 ∷ 4 ∷ 5 ∷ []))
-    (as-said refl (as-said refl
+    (as-said (reports wordsK loads-K 3 (1 ∷ 2 ∷ 4 ∷ 1 ∷ 1 ∷ []) refl) (as-said (rests-on wordsK loads-K 3 (1 ∷ 2 ∷ 4 ∷ 1 ∷ 1 ∷ []) refl)
     (as-said refl
     (as-said (parses words19 loads-19 (1 ∷ []))
     (as-said (parses wordsK loads-K (0 ∷ [])) (as-said (parses wordsK loads-K [])
     no-more)))))))))))))))
+
+-- an accepted load and an accepted start of that cut row of K: demand 3 speaks of it with no hypothesis left
+pub begun-K : Begun wordsK (zeros 4096) (1 ∷ 2 ∷ 4 ∷ 1 ∷ 1 ∷ []) (3 ∷ [])
+    (startArea wordsK (bytesOf wordsK) (1 ∷ 2 ∷ 4 ∷ 1 ∷ 1 ∷ []) (3 ∷ []) (zeros (need 5 2)))
+begun-K = record {
+  loads = loads-so wordsK loads-K;
+  matrix = bytesOf wordsK;
+  of-load = refl;
+  lent = zeros (need 5 2);
+  starts = done wordsK loads-K 3 (1 ∷ 2 ∷ 4 ∷ 1 ∷ 1 ∷ []) refl;
+  area-is = refl;
+}
