@@ -2,7 +2,9 @@
 -- Rests on specs' Shape and ShapeCode.
 --
 -- Main statements: headed; rows-fit, row-fails; sized-of; scan-more, side-few; blank-more; countable, line-within.
-use Prim.Native.Nat.{ℕ, zero, suc, _+_, _*_, _-_, _/_, _%_, _<_, _≤_}
+use Prim.Native.Nat.{ℕ, zero, suc, _+_, _*_, _-_, _/_, _%_, _<_, _≤_, _^_}
+use mir.Syntax.{w64}
+use mir.Val.{Fits}
 use mathlib.Core.Path.{_≡_, refl, sym, ap, _∙_}
 use mathlib.Core.Bool.{Bool, true, false, not, _&&_, false≢true}
 use mathlib.Core.List.{List, [], _∷_}
@@ -313,3 +315,37 @@ module _ (t n : ℕ) (area : List ℕ) (w : Walk) (x f h e y : ℕ) {p q : Bool}
 
     pub line-fit : not r ≡ false → counted w stack unread x e ≡ liveLine t n area w x f h e y
     line-fit j = rw (ss, us) (sym (kept2 _ _ status bounds k ∙ simp (sym sides ∙ not-false r j)))
+
+-- ---- words that are read one after another, from a place on
+
+module _ {place count : ℕ} where
+  pub index-fits : place < count → count < 2 ^ 64 → Fits w64 place
+  index-fits h g = omega arith
+
+  pub index-scaled : place < count → count * 2 < 2 ^ 63 → Fits w64 (place * 2)
+  index-scaled h g = omega arith
+
+-- so many words from a place on
+pub record Ahead (at words count : ℕ) : Type 0 where
+  pub room : at + words ≤ count
+
+module _ {at count : ℕ} where
+  module _ (h : Ahead at 4 count) where
+    pub word-0 : at < count
+    word-0 = omega (arith, h .room)
+
+    pub word-1 : at + 1 < count
+    word-1 = omega (arith, h .room)
+
+    pub word-2 : at + 2 < count
+    word-2 = omega (arith, h .room)
+
+    pub word-3 : at + 3 < count
+    word-3 = omega (arith, h .room)
+
+  module _ (h : Ahead at 5 count) where
+    pub four : Ahead at 4 count
+    four = record { room = omega (arith, h .room) }
+
+    pub word-4 : at + 4 < count
+    word-4 = omega (arith, h .room)

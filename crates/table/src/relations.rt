@@ -241,9 +241,9 @@ pub fn copy_out(matrix: &mut [u8], table: &[u8; 4096])
     requires { ⌜ (4096 ≤ length (now matrix)) × (length (now table) ≡ 4096) ⌝ }
     ensures { λ _. ⌜ now (matrix .exit) ≡ now (table .entry) ++ drop 4096 (now (matrix .entry)) ⌝ }
 {
-    let mut v: usize = 0;
-    while v < 4096 {
-        matrix[v] = table[v];
-        v += 1;
+    let mut at: usize = 0;
+    while at < 4096 {
+        matrix[at] = table[at];
+        at += 1;
     }
 }

@@ -43,7 +43,7 @@ pub fn entry(words: &[u16], r: usize) -> usize
 fn outside(low: usize, high: usize, v: usize) -> bool
     ensures { λ r. ⌜ r ≡ outside low high v ⌝ }
 {
-    v < low || high < v
+    (v < low) | (high < v)
 }
 
 // ---- 1 HEAD
@@ -159,7 +159,7 @@ fn no_symbol(words: &[u16], w: usize) -> bool
     requires { ⌜ Laid (now words) ⌝ }
     ensures { λ b. ⌜ b ≡ noSymbol (now (words .entry)) w ⌝ }
 {
-    outside(1, word(words, 0), w) && outside(256, 255 + word(words, 1), w)
+    outside(1, word(words, 0), w) & outside(256, 255 + word(words, 1), w)
 }
 
 // The word at place p of rule r's body is no nonterminal (left) or no symbol.
@@ -197,7 +197,7 @@ pub fn symbols(words: &[u16]) -> Found
 fn both_nonterminals(v: u16, w: u16) -> bool
     ensures { λ b. ⌜ b ≡ bothNonterminals v w ⌝ }
 {
-    256 <= v && 256 <= w
+    (256 <= v) & (256 <= w)
 }
 
 // The words from `start` to `end` have two adjacent nonterminals.
@@ -237,7 +237,7 @@ fn bad_form(words: &[u16], r: usize) -> bool
 {
     let start = entry(words, r) + 1;
     let end = body_end(words, r);
-    adjacent(words, start, end) || no_terminal(words, start, end)
+    adjacent(words, start, end) | no_terminal(words, start, end)
 }
 
 // The first rule whose right side has two adjacent nonterminals, or no terminal.

@@ -8,7 +8,6 @@ use Rattle.language.specs.Words.{countT, countN}
 use Rattle.area.specs.Shape.{inShape}
 use Rattle.area.specs.EndMarkOfShape.{grammar-in-shape}
 use Rattle.area.proofs.ShapeLaw.{headed}
-use borrow.Author.Needs.{needs}
 use Rattle.area.proofs.in_shape.Statement.{statement}
 use Rattle.area.proofs.in_shape.Tie as tie
 
@@ -19,7 +18,7 @@ head c =
     headed (a .words .now) (grammar-in-shape (a .words .now) (a .matrix .now) (sym (c .before .grammar-in-shape .ensures) ∙ not-false _ (c .if1 .left)) .0)
 
 grammar-in-shape-requires : tie.Need-grammar-in-shape-requires
-grammar-in-shape-requires c κs = search needs
+grammar-in-shape-requires c κs = tt
 
 returns : tie.Need-returns
 unfolding inShape

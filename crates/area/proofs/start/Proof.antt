@@ -10,7 +10,7 @@ use Rattle.area.proofs.start.Statement.{statement}
 use Rattle.area.proofs.start.Tie as tie
 
 check-requires : tie.Need-check-requires
-check-requires c κs = search needs
+check-requires c κs = tt
 
 enum-known-refusal : tie.Need-enum-known-refusal
 enum-known-refusal c = search needs

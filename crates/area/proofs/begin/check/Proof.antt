@@ -50,7 +50,7 @@ few : (c : tie.After-enum-told2) → length (c .before .before .before .before .
 few c = not-many (length (c .before .before .before .before .before .before .before .before .before .before .before .before .before .before .before .args .tokens .now)) (c .before .before .before .before .before .before .before .before .before .before .before .before .before .before .before .args .cuts .now) (no-bad-cut c)
 
 grammar-in-shape-requires : tie.Need-grammar-in-shape-requires
-grammar-in-shape-requires c κs = search needs
+grammar-in-shape-requires c κs = tt
 
 returns : tie.Need-returns
 returns c =
@@ -86,7 +86,7 @@ cast-bad-cuts : tie.Need-cast-bad-cuts
 cast-bad-cuts c = search needs
 
 bad-cuts-requires : tie.Need-bad-cuts-requires
-bad-cuts-requires c κs = search needs
+bad-cuts-requires c κs = tt
 
 enum-known-index : tie.Need-enum-known-index
 enum-known-index c = search needs

@@ -3,12 +3,11 @@ use mathlib.Core.Path.{sym, ap, _∙_}
 use borrow.Author.Tests.{not-true, not-false}
 use Rattle.area.specs.Shape.{areaInShape, walkFits}
 use Rattle.area.proofs.ShapeLaw.{sized-of}
-use borrow.Author.Needs.{needs}
 use Rattle.area.proofs.shape.area_in_shape.Statement.{statement}
 use Rattle.area.proofs.shape.area_in_shape.Tie as tie
 
 sized-requires : tie.Need-sized-requires
-sized-requires c κs = search needs
+sized-requires c κs = tt
 
 returns : tie.Need-returns
 unfolding areaInShape

@@ -4,7 +4,7 @@ use Rattle.area.proofs.shape.count_in.Statement.{statement}
 use Rattle.area.proofs.shape.count_in.Tie as tie
 
 one-if-running-requires : tie.Need-one-if-running-requires
-one-if-running-requires c κs = search needs
+one-if-running-requires c κs = tt
 
 add-t7 : tie.Need-add-t7
 add-t7 c = search needs

@@ -23,7 +23,7 @@ shared-slice-read-matrix-in-shape : tie.Need-shared-slice-read-matrix-in-shape
 shared-slice-read-matrix-in-shape c = omega (arith, headed (c .before .before .before .before .before .before .args .words .now) (ap isDone (sym (c .before .before .before .check-symbols .ensures) ∙ c .before .enum-told2 .given .1)))
 
 matrix-in-shape-requires : tie.Need-matrix-in-shape-requires
-matrix-in-shape-requires c κs = search needs
+matrix-in-shape-requires c κs = tt
 
 returns-2 : tie.Need-returns-2
 returns-2 c = c .matrix-in-shape .ensures ∙ sym (passed (c .before .before .before .before .before .before .before .args .words .now) (c .before .before .before .before .before .before .before .args .matrix .now) (sym (c .before .before .before .before .check-symbols .ensures) ∙ c .before .before .enum-told2 .given .1))

@@ -9,10 +9,10 @@ sub-tag-of : tie.Need-sub-tag-of
 sub-tag-of c = search needs
 
 tag-of-requires : tie.Need-tag-of-requires
-tag-of-requires c κs = search needs
+tag-of-requires c κs = tt
 
 break-off-requires : tie.Need-break-off-requires
-break-off-requires c κs = search needs
+break-off-requires c κs = tt
 
 returns : tie.Need-returns
 returns c = let a = c .before .before .before .before .args in c .break-off .ensures ∙ inner-left (a .st) (a .s) (a .m) (a .l) (a .b) (c .before .before .tag-of .ensures) (c .before .if1 .taken)

@@ -7,7 +7,7 @@ use Rattle.area.proofs.shape.line.Statement.{statement}
 use Rattle.area.proofs.shape.line.Tie as tie
 
 gone-fits-requires : tie.Need-gone-fits-requires
-gone-fits-requires c κs = search needs
+gone-fits-requires c κs = tt
 
 returns : tie.Need-returns
 unfolding lineOf
@@ -19,7 +19,7 @@ returns c =
     )
 
 fall-requires : tie.Need-fall-requires
-fall-requires c κs = search needs
+fall-requires c κs = tt
 
 returns-2 : tie.Need-returns-2
 unfolding lineOf
@@ -38,7 +38,7 @@ unfolding lineOf
 returns-3 c = simp (c .before .before .if1 .taken, ne-eqb _ _ (c .before .if2 .left)) (c .live-line .ensures)
 
 fall-requires-2 : tie.Need-fall-requires-2
-fall-requires-2 c κs = search needs
+fall-requires-2 c κs = tt
 
 returns-4 : tie.Need-returns-4
 unfolding lineOf

@@ -17,7 +17,7 @@ bounded c =
     bounded-of (getD (a .area .now) 0 0) (a .w .at) (a .f) (a .h) (a .e) (sym (c .before .bounds-fit .ensures) ∙ kept)
 
 status-fits-requires : tie.Need-status-fits-requires
-status-fits-requires c κs = search needs
+status-fits-requires c κs = tt
 
 shared-slice-read-bounds-fit : tie.Need-shared-slice-read-bounds-fit
 shared-slice-read-bounds-fit c = search needs
@@ -26,7 +26,7 @@ bounds-fit-requires : tie.Need-bounds-fit-requires
 bounds-fit-requires c κs = search needs
 
 fall-requires : tie.Need-fall-requires
-fall-requires c κs = search needs
+fall-requires c κs = tt
 
 returns : tie.Need-returns
 returns c =
@@ -46,10 +46,10 @@ side-requires-2 c κs =
     (pre .0, pre .1, bounded (c .before) .last)
 
 sides-fit-requires : tie.Need-sides-fit-requires
-sides-fit-requires c κs = search needs
+sides-fit-requires c κs = tt
 
 fall-requires-2 : tie.Need-fall-requires-2
-fall-requires-2 c κs = search needs
+fall-requires-2 c κs = tt
 
 returns-2 : tie.Need-returns-2
 returns-2 c =

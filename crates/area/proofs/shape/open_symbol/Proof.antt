@@ -10,7 +10,7 @@ use Rattle.area.proofs.shape.open_symbol.Statement.{statement}
 use Rattle.area.proofs.shape.open_symbol.Tie as tie
 
 break-off-requires : tie.Need-break-off-requires
-break-off-requires c κs = search needs
+break-off-requires c κs = tt
 
 returns : tie.Need-returns
 returns c = simp (eq-eqb _ _ (c .before .if1 .taken)) (c .break-off .ensures)
@@ -25,16 +25,16 @@ sub-tag-of : tie.Need-sub-tag-of
 sub-tag-of c = search needs
 
 tag-of-requires : tie.Need-tag-of-requires
-tag-of-requires c κs = search needs
+tag-of-requires c κs = tt
 
 break-off-requires-2 : tie.Need-break-off-requires-2
-break-off-requires-2 c κs = search needs
+break-off-requires-2 c κs = tt
 
 returns-2 : tie.Need-returns-2
 returns-2 c = simp (ne-eqb _ _ (c .before .before .before .before .before .if1 .left)) (c .break-off2 .ensures ∙ sym (left3 _ _ (c .before .before .before .before .symbol-fits .ensures) (c .before .before .before .place-fits .ensures) (ap (eqb (c .before .before .before .before .before .before .args .b)) (c .before .before .tag-of .ensures)) (c .before .if2 .taken)))
 
 one-if-terminal-requires : tie.Need-one-if-terminal-requires
-one-if-terminal-requires c κs = search needs
+one-if-terminal-requires c κs = tt
 
 sub-t15 : tie.Need-sub-t15
 sub-t15 c = search needs

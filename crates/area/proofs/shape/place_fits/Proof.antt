@@ -8,16 +8,16 @@ add-edge : tie.Need-add-edge
 add-edge c = search needs
 
 wide-requires : tie.Need-wide-requires
-wide-requires c κs = search needs
+wide-requires c κs = tt
 
 wide-requires-2 : tie.Need-wide-requires-2
-wide-requires-2 c κs = search needs
+wide-requires-2 c κs = tt
 
 add-result : tie.Need-add-result
 add-result c = search needs
 
 wide-requires-3 : tie.Need-wide-requires-3
-wide-requires-3 c κs = search needs
+wide-requires-3 c κs = tt
 
 add-result-2 : tie.Need-add-result-2
 add-result-2 c = search needs

@@ -5,13 +5,13 @@ use Rattle.area.proofs.shape.potential.Statement.{statement}
 use Rattle.area.proofs.shape.potential.Tie as tie
 
 one-less-requires : tie.Need-one-less-requires
-one-less-requires c κs = search needs
+one-less-requires c κs = tt
 
 long-requires : tie.Need-long-requires
-long-requires c κs = search needs
+long-requires c κs = tt
 
 one-less-requires-2 : tie.Need-one-less-requires-2
-one-less-requires-2 c κs = search needs
+one-less-requires-2 c κs = tt
 
 times-requires : tie.Need-times-requires
 times-requires c κs = search needs
@@ -20,7 +20,7 @@ add-result : tie.Need-add-result
 add-result c = search needs
 
 long-requires-2 : tie.Need-long-requires-2
-long-requires-2 c κs = search needs
+long-requires-2 c κs = tt
 
 add-result-2 : tie.Need-add-result-2
 add-result-2 c = search needs
@@ -32,7 +32,7 @@ add-result-3 : tie.Need-add-result-3
 add-result-3 c = search needs
 
 long-requires-3 : tie.Need-long-requires-3
-long-requires-3 c κs = search needs
+long-requires-3 c κs = tt
 
 add-result-4 : tie.Need-add-result-4
 add-result-4 c = search needs

@@ -2,7 +2,6 @@
 use mathlib.Core.Path.{_≡_, sym, _∙_}
 use borrow.Author.Tests.{not-true, not-false}
 use native.Mathlib.Omega.{arith}
-use borrow.Author.Needs.{needs}
 use Prim.Native.Nat.{ℕ, _+_, _*_, _-_, _≤_, _<_}
 use mathlib.Core.Bool.{Bool, true}
 use lib.ListN.{getD}
@@ -20,7 +19,7 @@ abbrev μ-loop : tie.MeasureT-loop
 μ-loop matrix t a at₀ b₀ at b = 64 - b
 
 wide-requires : tie.Need-wide-requires Inv-loop μ-loop
-wide-requires c κs = search needs
+wide-requires c κs = tt
 
 mul-at : tie.Need-mul-at Inv-loop μ-loop
 mul-at c = omega arith
@@ -32,7 +31,7 @@ shared-slice-read-byte-fits : tie.Need-shared-slice-read-byte-fits Inv-loop μ-l
 shared-slice-read-byte-fits c = omega arith
 
 byte-fits-requires : tie.Need-byte-fits-requires Inv-loop μ-loop
-byte-fits-requires c κs = search needs
+byte-fits-requires c κs = tt
 
 returns : tie.Need-returns Inv-loop μ-loop
 unfolding rowFits

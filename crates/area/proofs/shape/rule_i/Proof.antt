@@ -7,10 +7,10 @@ shared-slice-read-long : tie.Need-shared-slice-read-long
 shared-slice-read-long c = search needs
 
 long-requires : tie.Need-long-requires
-long-requires c κs = search needs
+long-requires c κs = tt
 
 long-requires-2 : tie.Need-long-requires-2
-long-requires-2 c κs = search needs
+long-requires-2 c κs = tt
 
 add-result : tie.Need-add-result
 add-result c = search needs
@@ -19,7 +19,7 @@ shared-slice-read-long-2 : tie.Need-shared-slice-read-long-2
 shared-slice-read-long-2 c = search needs
 
 long-requires-3 : tie.Need-long-requires-3
-long-requires-3 c κs = search needs
+long-requires-3 c κs = tt
 
 returns : tie.Need-returns
 returns c = simp (c .before .before .before .long .ensures .0, c .before .before .long2 .ensures .0, c .long3 .ensures .0)

@@ -7,25 +7,25 @@ shared-slice-read-long : tie.Need-shared-slice-read-long
 shared-slice-read-long c = search needs
 
 long-requires : tie.Need-long-requires
-long-requires c κs = search needs
+long-requires c κs = tt
 
 shared-slice-read-long-2 : tie.Need-shared-slice-read-long-2
 shared-slice-read-long-2 c = search needs
 
 long-requires-2 : tie.Need-long-requires-2
-long-requires-2 c κs = search needs
+long-requires-2 c κs = tt
 
 shared-slice-read-long-3 : tie.Need-shared-slice-read-long-3
 shared-slice-read-long-3 c = search needs
 
 long-requires-3 : tie.Need-long-requires-3
-long-requires-3 c κs = search needs
+long-requires-3 c κs = tt
 
 shared-slice-read-long-4 : tie.Need-shared-slice-read-long-4
 shared-slice-read-long-4 c = search needs
 
 long-requires-4 : tie.Need-long-requires-4
-long-requires-4 c κs = search needs
+long-requires-4 c κs = tt
 
 mul-result : tie.Need-mul-result
 mul-result c = search needs
@@ -34,7 +34,7 @@ add-result : tie.Need-add-result
 add-result c = search needs
 
 potential-requires : tie.Need-potential-requires
-potential-requires c κs = search needs
+potential-requires c κs = tt
 
 add-result-2 : tie.Need-add-result-2
 add-result-2 c = search needs

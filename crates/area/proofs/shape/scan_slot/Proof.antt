@@ -20,7 +20,7 @@ unfolding scanSlot
 returns-2 c = simp (c .before .before .before .if1 .taken, ne-eqb _ _ (c .before .if2 .left)) (c .inside .ensures)
 
 break-off-requires : tie.Need-break-off-requires
-break-off-requires c κs = search needs
+break-off-requires c κs = tt
 
 returns-3 : tie.Need-returns-3
 unfolding scanSlot

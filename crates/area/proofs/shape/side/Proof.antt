@@ -3,11 +3,11 @@ use mathlib.Core.Path.{_≡_, refl, sym, _∙_}
 use native.Mathlib.Omega.{arith}
 use borrow.Author.Needs.{needs}
 use Prim.Native.Nat.{ℕ, suc, _+_, _*_, _-_, _≤_}
-use lib.ListN.{getD, drop}
+use lib.ListN.{length, getD, drop}
 use Rattle.area.specs.Layout.{slotsAt}
 use Rattle.area.specs.Shape.{scanned, side}
 use Rattle.area.specs.ShapeCode.{Few}
-use Rattle.area.proofs.ShapeLaw.{scan-more, slot-few}
+use Rattle.area.proofs.ShapeLaw.{scan-more, slot-few, Ahead, index-fits, index-scaled, word-0, word-1, word-2, word-3}
 use Rattle.area.proofs.shape.side.Statement.{statement}
 use Rattle.area.proofs.shape.side.Tie as tie
 
@@ -21,6 +21,10 @@ Inv-loop area t n from to tokens base st₀ at₀ slot₀ st at slot = (from ≤
 abbrev μ-loop : tie.MeasureT-loop
 μ-loop area t n from to tokens base st₀ at₀ slot₀ st at slot = to - slot
 
+-- the four words of the slot are there
+room : (c : tie.In-loop Inv-loop μ-loop) → Ahead (c .before .loop .at) 4 (length (c .before .before .before .before .before .before .before .args .area .now))
+room c = record { room = omega arith }
+
 shared-slice-read-tokens : tie.Need-shared-slice-read-tokens Inv-loop μ-loop
 shared-slice-read-tokens c = omega arith
 
@@ -28,7 +32,7 @@ shared-slice-read-wide : tie.Need-shared-slice-read-wide Inv-loop μ-loop
 shared-slice-read-wide c = omega arith
 
 wide-requires : tie.Need-wide-requires Inv-loop μ-loop
-wide-requires c κs = search needs
+wide-requires c κs = tt
 
 mul-base : tie.Need-mul-base Inv-loop μ-loop
 mul-base c = search needs
@@ -37,7 +41,7 @@ add-base : tie.Need-add-base Inv-loop μ-loop
 add-base c = search needs
 
 wide-requires-2 : tie.Need-wide-requires-2 Inv-loop μ-loop
-wide-requires-2 c κs = search needs
+wide-requires-2 c κs = tt
 
 mul-at : tie.Need-mul-at Inv-loop μ-loop
 mul-at c = search needs
@@ -50,37 +54,37 @@ unfolding side
 loop-holds c = (omega arith, refl, omega arith, search needs, simp (c .before .wide .ensures .0, c .wide2 .ensures .0))
 
 mul-scan-slot : tie.Need-mul-scan-slot Inv-loop μ-loop
-mul-scan-slot c = search needs
+mul-scan-slot c = index-scaled (word-0 (room c)) (c .before .before .before .before .before .before .before .good .0 .1)
 
 shared-slice-read-scan-slot : tie.Need-shared-slice-read-scan-slot Inv-loop μ-loop
-shared-slice-read-scan-slot c = omega arith
+shared-slice-read-scan-slot c = word-0 (room (c .before))
 
 add-scan-slot : tie.Need-add-scan-slot Inv-loop μ-loop
-add-scan-slot c = search needs
+add-scan-slot c = index-fits (word-1 (room (c .before))) (c .before .before .before .before .before .before .before .before .good .0 .0)
 
 mul-scan-slot-2 : tie.Need-mul-scan-slot-2 Inv-loop μ-loop
-mul-scan-slot-2 c = search needs
+mul-scan-slot-2 c = index-scaled (word-1 (room (c .before))) (c .before .before .before .before .before .before .before .before .good .0 .1)
 
 shared-slice-read-scan-slot-2 : tie.Need-shared-slice-read-scan-slot-2 Inv-loop μ-loop
-shared-slice-read-scan-slot-2 c = omega arith
+shared-slice-read-scan-slot-2 c = word-1 (room (c .before .before))
 
 add-scan-slot-2 : tie.Need-add-scan-slot-2 Inv-loop μ-loop
-add-scan-slot-2 c = search needs
+add-scan-slot-2 c = index-fits (word-2 (room (c .before .before))) (c .before .before .before .before .before .before .before .before .before .good .0 .0)
 
 mul-scan-slot-3 : tie.Need-mul-scan-slot-3 Inv-loop μ-loop
-mul-scan-slot-3 c = search needs
+mul-scan-slot-3 c = index-scaled (word-2 (room (c .before .before))) (c .before .before .before .before .before .before .before .before .before .good .0 .1)
 
 shared-slice-read-scan-slot-3 : tie.Need-shared-slice-read-scan-slot-3 Inv-loop μ-loop
-shared-slice-read-scan-slot-3 c = omega arith
+shared-slice-read-scan-slot-3 c = word-2 (room (c .before .before .before))
 
 add-scan-slot-3 : tie.Need-add-scan-slot-3 Inv-loop μ-loop
-add-scan-slot-3 c = search needs
+add-scan-slot-3 c = index-fits (word-3 (room (c .before .before .before))) (c .before .before .before .before .before .before .before .before .before .before .good .0 .0)
 
 mul-scan-slot-4 : tie.Need-mul-scan-slot-4 Inv-loop μ-loop
-mul-scan-slot-4 c = search needs
+mul-scan-slot-4 c = index-scaled (word-3 (room (c .before .before .before))) (c .before .before .before .before .before .before .before .before .before .before .good .0 .1)
 
 shared-slice-read-scan-slot-4 : tie.Need-shared-slice-read-scan-slot-4 Inv-loop μ-loop
-shared-slice-read-scan-slot-4 c = omega arith
+shared-slice-read-scan-slot-4 c = word-3 (room (c .before .before .before .before))
 
 scan-slot-requires : tie.Need-scan-slot-requires Inv-loop μ-loop
 scan-slot-requires c κs = search needs

@@ -1,17 +1,16 @@
 -- `shape::sides_fit` meets its contract: the tests of `sidesFit`, joined.
 use Rattle.area.proofs.Joined.{sides-tests}
-use borrow.Author.Needs.{needs}
 use Rattle.area.proofs.shape.sides_fit.Statement.{statement}
 use Rattle.area.proofs.shape.sides_fit.Tie as tie
 
 side-fits-requires : tie.Need-side-fits-requires
-side-fits-requires c κs = search needs
+side-fits-requires c κs = tt
 
 side-fits-requires-2 : tie.Need-side-fits-requires-2
-side-fits-requires-2 c κs = search needs
+side-fits-requires-2 c κs = tt
 
 stuck-fits-requires : tie.Need-stuck-fits-requires
-stuck-fits-requires c κs = search needs
+stuck-fits-requires c κs = tt
 
 returns : tie.Need-returns
 returns c =

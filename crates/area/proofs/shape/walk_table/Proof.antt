@@ -3,10 +3,10 @@ use mathlib.Core.Path.{_≡_}
 use native.Mathlib.Omega.{arith}
 use borrow.Author.Needs.{needs}
 use Prim.Native.Nat.{ℕ, suc, _+_, _*_, _-_, _≤_}
-use lib.ListN.{getD}
+use lib.ListN.{length, getD}
 use Rattle.area.specs.Shape.{walked, walkOf}
 use Rattle.area.specs.ShapeCode.{Within}
-use Rattle.area.proofs.ShapeLaw.{line-within}
+use Rattle.area.proofs.ShapeLaw.{line-within, Ahead, index-fits, index-scaled, word-0, word-1, word-2, word-3, word-4, four}
 use Rattle.area.proofs.shape.walk_table.Statement.{statement}
 use Rattle.area.proofs.shape.walk_table.Tie as tie
 
@@ -20,11 +20,15 @@ Inv-loop area t n count w₀ at₀ i₀ w at i = (i ≤ count)
 abbrev μ-loop : tie.MeasureT-loop
 μ-loop area t n count w₀ at₀ i₀ w at i = count - i
 
+-- the five words of the row are there
+room : (c : tie.In-loop Inv-loop μ-loop) → Ahead (c .before .loop .at) 5 (length (c .before .before .before .before .before .args .area .now))
+room c = record { room = omega arith }
+
 shared-slice-read-wide : tie.Need-shared-slice-read-wide Inv-loop μ-loop
 shared-slice-read-wide c = omega arith
 
 wide-requires : tie.Need-wide-requires Inv-loop μ-loop
-wide-requires c κs = search needs
+wide-requires c κs = tt
 
 loop-holds : tie.Need-loop-holds Inv-loop μ-loop
 unfolding walkOf
@@ -32,46 +36,46 @@ loop-holds c = let e : getD (c .before .before .before .args .area .now) 1 0 - 0
     (omega arith, c .wide .ensures .0, omega arith, search needs, rw (c .wide .ensures .0, e))
 
 mul-line : tie.Need-mul-line Inv-loop μ-loop
-mul-line c = search needs
+mul-line c = index-scaled (word-0 (four (room c))) (c .before .before .before .before .before .good .0 .1)
 
 shared-slice-read-line : tie.Need-shared-slice-read-line Inv-loop μ-loop
-shared-slice-read-line c = omega arith
+shared-slice-read-line c = word-0 (four (room (c .before)))
 
 add-line : tie.Need-add-line Inv-loop μ-loop
-add-line c = search needs
+add-line c = index-fits (word-1 (four (room (c .before)))) (c .before .before .before .before .before .before .good .0 .0)
 
 mul-line-2 : tie.Need-mul-line-2 Inv-loop μ-loop
-mul-line-2 c = search needs
+mul-line-2 c = index-scaled (word-1 (four (room (c .before)))) (c .before .before .before .before .before .before .good .0 .1)
 
 shared-slice-read-line-2 : tie.Need-shared-slice-read-line-2 Inv-loop μ-loop
-shared-slice-read-line-2 c = omega arith
+shared-slice-read-line-2 c = word-1 (four (room (c .before .before)))
 
 add-line-2 : tie.Need-add-line-2 Inv-loop μ-loop
-add-line-2 c = search needs
+add-line-2 c = index-fits (word-2 (four (room (c .before .before)))) (c .before .before .before .before .before .before .before .good .0 .0)
 
 mul-line-3 : tie.Need-mul-line-3 Inv-loop μ-loop
-mul-line-3 c = search needs
+mul-line-3 c = index-scaled (word-2 (four (room (c .before .before)))) (c .before .before .before .before .before .before .before .good .0 .1)
 
 shared-slice-read-line-3 : tie.Need-shared-slice-read-line-3 Inv-loop μ-loop
-shared-slice-read-line-3 c = omega arith
+shared-slice-read-line-3 c = word-2 (four (room (c .before .before .before)))
 
 add-line-3 : tie.Need-add-line-3 Inv-loop μ-loop
-add-line-3 c = search needs
+add-line-3 c = index-fits (word-3 (four (room (c .before .before .before)))) (c .before .before .before .before .before .before .before .before .good .0 .0)
 
 mul-line-4 : tie.Need-mul-line-4 Inv-loop μ-loop
-mul-line-4 c = search needs
+mul-line-4 c = index-scaled (word-3 (four (room (c .before .before .before)))) (c .before .before .before .before .before .before .before .before .good .0 .1)
 
 shared-slice-read-line-4 : tie.Need-shared-slice-read-line-4 Inv-loop μ-loop
-shared-slice-read-line-4 c = omega arith
+shared-slice-read-line-4 c = word-3 (four (room (c .before .before .before .before)))
 
 add-line-4 : tie.Need-add-line-4 Inv-loop μ-loop
-add-line-4 c = search needs
+add-line-4 c = index-fits (word-4 (room (c .before .before .before .before))) (c .before .before .before .before .before .before .before .before .before .good .0 .0)
 
 mul-line-5 : tie.Need-mul-line-5 Inv-loop μ-loop
-mul-line-5 c = search needs
+mul-line-5 c = index-scaled (word-4 (room (c .before .before .before .before))) (c .before .before .before .before .before .before .before .before .before .good .0 .1)
 
 shared-slice-read-line-5 : tie.Need-shared-slice-read-line-5 Inv-loop μ-loop
-shared-slice-read-line-5 c = omega arith
+shared-slice-read-line-5 c = word-4 (room (c .before .before .before .before .before))
 
 line-requires : tie.Need-line-requires Inv-loop μ-loop
 line-requires c κs = search needs

@@ -9,10 +9,10 @@ use Rattle.table.proofs.relations.copy_out.Statement.{statement}
 use Rattle.table.proofs.relations.copy_out.Tie as tie
 
 abbrev Inv-loop : tie.InvT-loop
-Inv-loop matrix₀ table v₀ matrix v = (v ≤ 4096) × (length matrix ≡ length matrix₀) × (matrix ≡ take v table ++ drop v matrix₀)
+Inv-loop matrix₀ table at₀ matrix at = (at ≤ 4096) × (length matrix ≡ length matrix₀) × (matrix ≡ take at table ++ drop at matrix₀)
 
 abbrev μ-loop : tie.MeasureT-loop
-μ-loop matrix₀ table v₀ matrix v = 4096 - v
+μ-loop matrix₀ table at₀ matrix at = 4096 - at
 
 loop-holds : tie.Need-loop-holds Inv-loop μ-loop
 loop-holds c = (omega arith, refl, refl)
@@ -23,8 +23,8 @@ element-copy-out-matrix c = omega arith
 slice-write-matrix : tie.Need-slice-write-matrix Inv-loop μ-loop
 slice-write-matrix c = omega arith
 
-add-v : tie.Need-add-v Inv-loop μ-loop
-add-v c = omega arith
+add-at : tie.Need-add-at Inv-loop μ-loop
+add-at c = omega arith
 
 loop-less : tie.Need-loop-less Inv-loop μ-loop
 loop-less c = omega arith
@@ -33,7 +33,7 @@ loop-again : tie.Need-loop-again Inv-loop μ-loop
 loop-again c =
     let s = c .before .before .before in
     let l = c .before .before .loop in
-    (omega arith, simp length-set (l .inv .1), copied-more (s .args .table .now) (s .args .matrix .now) 4096 (s .pre .1) (s .pre .0) (l .v) (l .matrix) (omega arith) (l .inv .2))
+    (omega arith, simp length-set (l .inv .1), copied-more (s .args .table .now) (s .args .matrix .now) 4096 (s .pre .1) (s .pre .0) (l .at) (l .matrix) (omega arith) (l .inv .2))
 
 same-length : tie.Need-same-length Inv-loop μ-loop
 same-length c = c .before .loop .inv .1
@@ -42,7 +42,7 @@ returns : tie.Need-returns Inv-loop μ-loop
 returns c =
     let s = c .before .before in
     let l = c .before .loop in
-    copied-whole (s .args .table .now) (s .args .matrix .now) 4096 (s .pre .1) (s .pre .0) (l .v) (l .matrix) (omega arith) (l .inv .0) (l .inv .2)
+    copied-whole (s .args .table .now) (s .args .matrix .now) 4096 (s .pre .1) (s .pre .0) (l .at) (l .matrix) (omega arith) (l .inv .0) (l .inv .2)
 
 pub copy-out-spec : {M : Type 1} → statement M
 copy-out-spec =
@@ -53,7 +53,7 @@ copy-out-spec =
     loop-holds
     element-copy-out-matrix
     slice-write-matrix
-    add-v
+    add-at
     loop-less
     loop-again
     same-length

@@ -1,6 +1,5 @@
 -- `bad_form` is the test `badForm`.
 use Prim.Native.Nat.{_+_}
-use mathlib.Core.Path.{sym, _∙_}
 use native.Mathlib.Omega.{arith}
 use borrow.Author.Needs.{needs}
 use Rattle.table.specs.Forms.{form-is}
@@ -24,20 +23,15 @@ adjacent-requires c κs =
 
 no-terminal-requires : tie.Need-no-terminal-requires
 no-terminal-requires c κs =
-    let s = c .before .before .before .before .before in
+    let s = c .before .before .before .before in
     omega (arith, within (s .args .words .now) (s .pre .0) (s .args .r) (s .pre .1))
 
 returns : tie.Need-returns
 returns c =
     let s = c .before .before .before .before .before in
-    let e = form-is (s .args .words .now) (s .args .r) (c .before .before .before .entry .result + 1) (c .before .before .body-end .result) (s .pre .1) (omega arith) (c .before .before .body-end .ensures) in
-    rw (e, sym (c .before .adjacent .ensures) ∙ c .if1 .taken) (c .if1 .taken)
-
-returns-2 : tie.Need-returns-2
-returns-2 c =
-    let s = c .before .before .before .before .before .before in
-    let e = form-is (s .args .words .now) (s .args .r) (c .before .before .before .before .entry .result + 1) (c .before .before .before .body-end .result) (s .pre .1) (omega arith) (c .before .before .before .body-end .ensures) in
-    rw (e, sym (c .before .before .adjacent .ensures) ∙ c .before .if1 .left) (c .no-terminal .ensures)
+    let start = c .before .before .before .entry .result + 1 in
+    let e = form-is (s .args .words .now) (s .args .r) start (c .before .before .body-end .result) (s .pre .1) (omega arith) (c .before .before .body-end .ensures) in
+    rw (e, c .before .adjacent .ensures, c .no-terminal .ensures)
 
 pub bad-form-spec : {M : Type 1} → statement M
 bad-form-spec =
@@ -48,5 +42,4 @@ bad-form-spec =
     body-end-requires
     adjacent-requires
     no-terminal-requires
-    returns
-    returns-2)
+    returns)

@@ -1,5 +1,4 @@
 -- `no_symbol` is the test `noSymbol`.
-use mathlib.Core.Path.{sym, _∙_}
 use borrow.Author.Needs.{needs}
 use Rattle.table.proofs.words.no_symbol.Statement.{statement}
 use Rattle.table.proofs.words.no_symbol.Tie as tie
@@ -20,23 +19,8 @@ outside-requires-2 : tie.Need-outside-requires-2
 outside-requires-2 c κs = search needs
 
 returns : tie.Need-returns
-returns c =
-    let first = rw (c .before .before .before .before .word .ensures .0) at (c .before .before .before .outside .ensures) in
-    rw (sym first ∙ c .before .before .if1 .taken) (rw (c .before .word2 .ensures .0) at (c .outside2 .ensures))
-
-returns-2 : tie.Need-returns-2
-returns-2 c =
-    let first = rw (c .before .before .word .ensures .0) at (c .before .outside .ensures) in
-    rw (sym first ∙ c .if1 .left) (c .if1 .left)
+returns c = rw (c .before .before .outside .ensures, c .outside2 .ensures, c .before .before .before .word .ensures .0, c .before .word2 .ensures .0)
 
 pub no-symbol-spec : {M : Type 1} → statement M
 no-symbol-spec =
-    tie.close
-    (tie.spec
-    word-requires
-    outside-requires
-    word-requires-2
-    add-outside
-    outside-requires-2
-    returns
-    returns-2)
+    tie.close (tie.spec word-requires outside-requires word-requires-2 add-outside outside-requires-2 returns)
