@@ -1,9 +1,12 @@
--- Demands 2 and 3, over the definitions that the contracts of the public functions cite: load, start, step, run, join, report and parse.
--- Each record below is a demand, a field a sentence; each theorem says of every lent input that the demand holds. What is assumed is only what
--- a caller sees: that load and start answered 0, that the tokens are 1 to 16,384 in 1..T, that runs are long enough, that the
--- matrix lent to later calls begins with the 4,096 bytes that load left.
--- Rests on ParseDemand, MoveDemand, Reached, SameReport and Finishing.
+-- Demands 1, 2 and 3, over the definitions that the contracts of the public functions cite: load, start, step, run, join, report, parse and the others.
+-- Each record below is a demand, a field a sentence; each theorem says of every lent input that the demand holds. Demand 1 assumes nothing, but that
+-- word 2 of a lent area has 16 bits where it speaks of the words beyond. What the others assume is only what a caller sees: that load and start
+-- answered 0, that the tokens are 1 to 16,384 in 1..T, that runs are long enough, that the matrix lent to later calls begins with the 4,096
+-- bytes that load left.
+-- Rests on PublicCalls, GivenDemand, AnswersDemand; ParseDemand, MoveDemand, Reached, SameReport and Finishing.
 --
+-- demand-1: every public call has one answer, a listed number or success, given exactly when its sentence holds, and a refusal leaves what was lent.
+-- demand-1-parse: the one-call parse's work area, which ends as zeros once used.
 -- demand-2-parse: parse accepts exactly the language, its report is the one tree's post-order, a refusal is the uncut reader's.
 -- demand-2-moves: step, run and join make exactly the moves that document 01 names; demand-2-reached: so wherever calls have come to.
 -- demand-3: any order of calls after one accepted load and one accepted start. demand-3-finishes: those that go on while they can finish.
@@ -11,7 +14,7 @@
 use mathlib.Core.Path.{_≡_, sym, subst, _∙_}
 use mathlib.Core.Bool.{true, true≢false}
 use mathlib.Core.Logic.{_↔_}
-use mathlib.Core.List.{List, [], _++_}
+use mathlib.Core.List.{List, [], _∷_, _++_, List·Memᴰ}
 use Prim.Native.Nat.{ℕ, _+_, _*_, _-_, _≤_, _<_}
 use lib.ListN.{length, getD, drop}
 use Rattle.language.specs.declared.Refusal.{Refusal}
@@ -35,6 +38,9 @@ use Rattle.area.specs.Start.{startAnswer, bad-state-given}
 use Rattle.area.specs.Safe.{Safe}
 use Rattle.reader.specs.ParseCall.{parseOutcome, parseAnswer, parseOut}
 use Rattle.report.specs.ReportCall.{reportOutcome, reportAnswer, reportOut}
+use Rattle.demands.specs.PublicCalls.{PublicCall, GivesBack, Keeps, promised, numberFor, numbersFor, LentKept, BeyondKept}
+use Rattle.demands.specs.GivenDemand.{GivenFor, given-for}
+use Rattle.demands.specs.AnswersDemand.{promise-kept, one-answer-only, number-listed, lent-kept, beyond-kept, ParseAreaLeft, parse-area-left}
 use Rattle.demands.specs.Calls.{Call, matrixFor, callMade, areaAfter, movesMade, countIn, OfLoad, AllOfLoad, Begun}
 use Rattle.demands.specs.OwnMatrix.{ownTable, accepted, shape-is}
 use Rattle.demands.specs.Standing.{Standing, standing-after}
@@ -43,6 +49,36 @@ use Rattle.demands.specs.MoveDemand.{RunNamed, StepLeaves, RunLeaves, Jo
 use Rattle.demands.specs.Reached.{EachRight, each-right, report-never-15, moves-counted, moves-few, in-shape-there, low-there}
 use Rattle.demands.specs.SameReport.{same-but-moves, same-report, report-counts}
 use Rattle.demands.specs.Finishing.{SomeMove, some-move, finished-stays, AllMove, lists-end, firstCalls, reportAfter, GoesOn, goes-on-finishes, CanFinish, can-finish}
+
+-- ---- demand 1
+
+-- any public call with any words lent to it, whatever they are
+pub record Answers (call : PublicCall) : Type 1 where
+  -- "Every grammar, token list, cutting and call gets an answer, with nothing assumed checked beforehand": the contract admits one, and no other
+  pub answered : Keeps call (promised call)
+  pub one-only : (x y : GivesBack call) → Keeps call x → Keeps call y → x ≡ y
+  -- "A refusal carries its listed number": 0, or one of the numbers that document 01 lists for the call, in the order of its checks
+  pub listed : List·Memᴰ (numberFor call) (0 ∷ numbersFor call)
+  -- ".. and place": an answer, with its value, is given exactly when its sentence of the table holds and the checks before it passed
+  pub given : GivenFor call
+  -- "what was lent to that call still holds what it held": every run that it may write, the one-call parse's work area aside
+  pub refused-keeps : (numberFor call ≡ 0 → ⊥) → LentKept call
+  -- "anything beyond is untouched", on success too
+  pub beyond-keeps : BeyondKept call
+
+pub demand-1 : (call : PublicCall) → Answers call
+demand-1 call = record {
+  answered = promise-kept call;
+  one-only = one-answer-only call;
+  listed = number-listed call;
+  given = given-for call;
+  refused-keeps = lent-kept call;
+  beyond-keeps = beyond-kept call;
+}
+
+-- "but for the one-call parse's work area, which ends as zeros once used"
+pub demand-1-parse : (words tokens area out : List ℕ) → ParseAreaLeft words tokens area out
+demand-1-parse = parse-area-left
 
 -- ---- demand 2, parse
 

@@ -1,10 +1,13 @@
+pub mod AnswersDemand
 pub mod Calls
 pub mod Demands
 pub mod Finishing
+pub mod GivenDemand
 pub mod MoveDemand
 pub mod OnWords
 pub mod OwnMatrix
 pub mod ParseDemand
+pub mod PublicCalls
 pub mod Reached
 pub mod SameReport
 pub mod Standing

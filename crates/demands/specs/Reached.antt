@@ -57,7 +57,7 @@ pub data OutcomeNumber (o : Outcome) (room : ℕ) : Type 0 where
   number-11 : reportNumber (outcomeAnswer o room) ≡ 11 → OutcomeNumber o room
   number-0 : reportNumber (outcomeAnswer o room) ≡ 0 → OutcomeNumber o room
 
-stuck-number : (why : Stuck) (place : ℕ) → (17 ≤ numberOf (refusalOf why place)) × (numberOf (refusalOf why place) ≤ 20)
+pub stuck-number : (why : Stuck) (place : ℕ) → (17 ≤ numberOf (refusalOf why place)) × (numberOf (refusalOf why place) ≤ 20)
 stuck-number noRelation place = (omega arith, omega arith)
 stuck-number noRule place = (omega arith, omega arith)
 stuck-number notAxiom place = (omega arith, omega arith)

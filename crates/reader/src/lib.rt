@@ -1,13 +1,17 @@
 // The calls that move a row: step, run, join and the one-call parse. Their meanings stand in specs/.
 mod calls;
 mod moves;
+mod parsing;
 
 use crate::moves::Next;
 use language::Answer;
 use language::Refusal;
+use language::ReportAnswer;
 use language::RunAnswer;
 ghost use mathlib.Core.Path.{_≡_};
+ghost use lib.ListN.{length};
 ghost use Rattle.reader.specs.Calls.{stepAnswer, stepArea, runAnswer, runArea, joinAnswer, joinArea};
+ghost use Rattle.reader.specs.ParseCall.{parseAnswer, parseArea, parseOut};
 
 // One move of a chunk: checks 15, 12 and 13. Where it refuses, the area is untouched.
 pub fn step(words: &[u16], matrix: &[u8], area: &mut [u16], chunk: usize) -> Answer
@@ -66,4 +70,15 @@ pub fn join(words: &[u16], matrix: &[u8], area: &mut [u16], chunk: usize) -> Ans
         return Answer::Done;
     }
     Answer::Refused(Refusal::NoJoin)
+}
+
+// The front-to-back parse in one call: checks 1 to 9, 11 for the work area, 17 to 20, and 11 for the report. From 11 for the work area on, the
+// words that it needs there are zero when it ends; words beyond them, and on a refusal the report run, are untouched.
+pub fn parse(words: &[u16], tokens: &[u16], area: &mut [u16], out: &mut [u16]) -> ReportAnswer
+    ensures answers { λ r. ⌜ r ≡ parseAnswer (now (words .entry)) (now (tokens .entry)) (length (now (area .entry))) (length (now (out .entry))) ⌝ }
+    ensures clears { λ _. ⌜ now (area .exit) ≡ parseArea (now (words .entry)) (now (tokens .entry)) (now (area .entry)) ⌝ }
+    ensures writes { λ _. ⌜ now (out .exit) ≡ parseOut (now (words .entry)) (now (tokens .entry)) (length (now (area .entry))) (now (out .entry)) ⌝ }
+{
+    let mut matrix = [0u8; 4096];
+    parsing::parse_with(words, &mut matrix, tokens, area, out)
 }

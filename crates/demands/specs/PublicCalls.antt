@@ -1,0 +1,182 @@
+-- The public calls as one list: what each is lent, what it gives back, what its contract says, and the numbers that document 01 lists for it.
+-- Document 01, "Refusal numbers": "Loading checks 1 to 6 in that order .., then 11. Asking a set checks 1 to 5, then 21. .. Start checks 15, 7, 8,
+-- 9, 10, 11; a move or run 15, 12, 13; a join 15, 12, 14; the report 15, 16, 17 to 20, 11. The one-call parse checks 1 to 9 by number, then 11 for the
+-- work area, then 17 to 20, then 11 for the report"; "All return number and value and leave lent memory unchanged"; "anything beyond is untouched".
+-- A run that a call only reads is lent as shared, so that no program can write to it; of the others the contract gives every word.
+-- Rests on the definitions that the contracts cite, and on nothing else.
+--
+-- Main definitions: PublicCall; GivesBack, Keeps (the contract), promised; numberFor, numbersFor; LentKept, BeyondKept.
+use mathlib.Core.Path.{_≡_}
+use mathlib.Core.Bool.{Bool}
+use mathlib.Core.List.{List, [], _∷_}
+use Prim.Native.Nat.{ℕ, _+_, _*_, _<_}
+use lib.ListN.{length, getD, drop}
+use Rattle.language.specs.declared.Refusal.{Refusal}
+use Rattle.language.specs.declared.Answer.{Answer}
+use Rattle.language.specs.declared.SetAnswer.{SetAnswer}
+use Rattle.language.specs.declared.RunAnswer.{RunAnswer}
+use Rattle.language.specs.declared.ReportAnswer.{ReportAnswer}
+use Rattle.language.specs.declared.ReportAnswer.the-variants.{Report}
+use Rattle.language.specs.Refusals.{numberOf, valueOf, answerNumber, setNumber, runNumber, reportNumber}
+use Rattle.language.specs.Checks.{checkSymbols, checkWords}
+use Rattle.language.specs.Loads.{loadAnswer, loadBytes, leftSetAnswer, rightSetAnswer}
+use Rattle.area.specs.Layout.{need}
+use Rattle.area.specs.Shape.{inShape}
+use Rattle.area.specs.Start.{startAnswer, startArea}
+use Rattle.reader.specs.Calls.{stepAnswer, stepArea, runAnswer, runArea, joinAnswer, joinArea}
+use Rattle.reader.specs.ParseCall.{parseAnswer, parseArea, parseOut}
+use Rattle.report.specs.ReportCall.{reportAnswer, reportOut, entryTokens, entryStart, wordAddress}
+
+-- a call, with every word lent to it; `place` is where the token run stands
+pub data PublicCall : Type 0 where
+  number-of : (refusal : Refusal) → PublicCall
+  value-of : (refusal : Refusal) → PublicCall
+  check-symbols : (words : List ℕ) → PublicCall
+  check-words : (words : List ℕ) → PublicCall
+  load : (words bytes : List ℕ) → PublicCall
+  left-set : (words : List ℕ) (k : ℕ) → PublicCall
+  right-set : (words : List ℕ) (k : ℕ) → PublicCall
+  in-shape : (words matrix area : List ℕ) → PublicCall
+  start : (words matrix tokens cuts area : List ℕ) → PublicCall
+  step : (words matrix area : List ℕ) (c : ℕ) → PublicCall
+  run : (words matrix area : List ℕ) (c budget : ℕ) → PublicCall
+  join : (words matrix area : List ℕ) (c : ℕ) → PublicCall
+  report : (words matrix area out : List ℕ) → PublicCall
+  parse : (words tokens area out : List ℕ) → PublicCall
+  entry-tokens : (entries : List ℕ) (e : ℕ) (tokens : List ℕ) (place : ℕ × ℕ) → PublicCall
+
+-- the answer, and after it the runs that the call may write as they are when it ends; of a part of the tokens its words and its place
+abbrev pub GivesBack : PublicCall → Type 0
+GivesBack (number-of refusal) = ℕ
+GivesBack (value-of refusal) = ℕ
+GivesBack (check-symbols words) = Answer
+GivesBack (check-words words) = Answer
+GivesBack (load words bytes) = Answer × List ℕ
+GivesBack (left-set words k) = SetAnswer
+GivesBack (right-set words k) = SetAnswer
+GivesBack (in-shape words matrix area) = Bool
+GivesBack (start words matrix tokens cuts area) = Answer × List ℕ
+GivesBack (step words matrix area c) = Answer × List ℕ
+GivesBack (run words matrix area c budget) = RunAnswer × List ℕ
+GivesBack (join words matrix area c) = Answer × List ℕ
+GivesBack (report words matrix area out) = ReportAnswer × List ℕ
+GivesBack (parse words tokens area out) = ReportAnswer × List ℕ × List ℕ
+GivesBack (entry-tokens entries e tokens place) = List ℕ × (ℕ × ℕ)
+
+-- the contract: each line of it an equation
+abbrev pub Keeps : (call : PublicCall) → GivesBack call → Type 0
+Keeps (number-of refusal) r = r ≡ numberOf refusal
+Keeps (value-of refusal) r = r ≡ valueOf refusal
+Keeps (check-symbols words) r = r ≡ checkSymbols words
+Keeps (check-words words) r = r ≡ checkWords words
+Keeps (load words bytes) r = (r .0 ≡ loadAnswer words (length bytes)) × (r .1 ≡ loadBytes words bytes)
+Keeps (left-set words k) r = r ≡ leftSetAnswer words k
+Keeps (right-set words k) r = r ≡ rightSetAnswer words k
+Keeps (in-shape words matrix area) r = r ≡ inShape words matrix area
+Keeps (start words matrix tokens cuts area) r = (r .0 ≡ startAnswer words matrix tokens cuts (length area)) × (r .1 ≡ startArea words matrix tokens cuts area)
+Keeps (step words matrix area c) r = (r .0 ≡ stepAnswer words matrix area c) × (r .1 ≡ stepArea words matrix area c)
+Keeps (run words matrix area c budget) r = (r .0 ≡ runAnswer words matrix area c budget) × (r .1 ≡ runArea words matrix area c budget)
+Keeps (join words matrix area c) r = (r .0 ≡ joinAnswer words matrix area c) × (r .1 ≡ joinArea words matrix area c)
+Keeps (report words matrix area out) r = (r .0 ≡ reportAnswer words matrix area (length out)) × (r .1 ≡ reportOut words matrix area out)
+Keeps (parse words tokens area out) r =
+    (r .0 ≡ parseAnswer words tokens (length area) (length out)) × (r .1 ≡ parseArea words tokens area) × (r .2 ≡ parseOut words tokens (length area) out)
+Keeps (entry-tokens entries e tokens place) r = (r .0 ≡ entryTokens entries e tokens) × (r .1 ≡ wordAddress place (entryStart entries e (length tokens)))
+
+abbrev pub promised : (call : PublicCall) → GivesBack call
+promised (number-of refusal) = numberOf refusal
+promised (value-of refusal) = valueOf refusal
+promised (check-symbols words) = checkSymbols words
+promised (check-words words) = checkWords words
+promised (load words bytes) = (loadAnswer words (length bytes), loadBytes words bytes)
+promised (left-set words k) = leftSetAnswer words k
+promised (right-set words k) = rightSetAnswer words k
+promised (in-shape words matrix area) = inShape words matrix area
+promised (start words matrix tokens cuts area) = (startAnswer words matrix tokens cuts (length area), startArea words matrix tokens cuts area)
+promised (step words matrix area c) = (stepAnswer words matrix area c, stepArea words matrix area c)
+promised (run words matrix area c budget) = (runAnswer words matrix area c budget, runArea words matrix area c budget)
+promised (join words matrix area c) = (joinAnswer words matrix area c, joinArea words matrix area c)
+promised (report words matrix area out) = (reportAnswer words matrix area (length out), reportOut words matrix area out)
+promised (parse words tokens area out) =
+    (parseAnswer words tokens (length area) (length out), parseArea words tokens area, parseOut words tokens (length area) out)
+promised (entry-tokens entries e tokens place) = (entryTokens entries e tokens, wordAddress place (entryStart entries e (length tokens)))
+
+-- the number of the answer; a call that refuses nothing has 0
+abbrev pub numberFor : PublicCall → ℕ
+numberFor (number-of refusal) = 0
+numberFor (value-of refusal) = 0
+numberFor (check-symbols words) = answerNumber (checkSymbols words)
+numberFor (check-words words) = answerNumber (checkWords words)
+numberFor (load words bytes) = answerNumber (loadAnswer words (length bytes))
+numberFor (left-set words k) = setNumber (leftSetAnswer words k)
+numberFor (right-set words k) = setNumber (rightSetAnswer words k)
+numberFor (in-shape words matrix area) = 0
+numberFor (start words matrix tokens cuts area) = answerNumber (startAnswer words matrix tokens cuts (length area))
+numberFor (step words matrix area c) = answerNumber (stepAnswer words matrix area c)
+numberFor (run words matrix area c budget) = runNumber (runAnswer words matrix area c budget)
+numberFor (join words matrix area c) = answerNumber (joinAnswer words matrix area c)
+numberFor (report words matrix area out) = reportNumber (reportAnswer words matrix area (length out))
+numberFor (parse words tokens area out) = reportNumber (parseAnswer words tokens (length area) (length out))
+numberFor (entry-tokens entries e tokens place) = 0
+
+-- the numbers of its refusals, in the order of the checks
+abbrev pub numbersFor : PublicCall → List ℕ
+numbersFor (number-of refusal) = []
+numbersFor (value-of refusal) = []
+numbersFor (check-symbols words) = 1 ∷ 2 ∷ 3 ∷ []
+numbersFor (check-words words) = 1 ∷ 2 ∷ 3 ∷ 4 ∷ 5 ∷ []
+numbersFor (load words bytes) = 1 ∷ 2 ∷ 3 ∷ 4 ∷ 5 ∷ 6 ∷ 11 ∷ []
+numbersFor (left-set words k) = 1 ∷ 2 ∷ 3 ∷ 4 ∷ 5 ∷ 21 ∷ []
+numbersFor (right-set words k) = 1 ∷ 2 ∷ 3 ∷ 4 ∷ 5 ∷ 21 ∷ []
+numbersFor (in-shape words matrix area) = []
+numbersFor (start words matrix tokens cuts area) = 15 ∷ 7 ∷ 8 ∷ 9 ∷ 10 ∷ 11 ∷ []
+numbersFor (step words matrix area c) = 15 ∷ 12 ∷ 13 ∷ []
+numbersFor (run words matrix area c budget) = 15 ∷ 12 ∷ 13 ∷ []
+numbersFor (join words matrix area c) = 15 ∷ 12 ∷ 14 ∷ []
+numbersFor (report words matrix area out) = 15 ∷ 16 ∷ 17 ∷ 18 ∷ 19 ∷ 20 ∷ 11 ∷ []
+numbersFor (parse words tokens area out) = 1 ∷ 2 ∷ 3 ∷ 4 ∷ 5 ∷ 6 ∷ 7 ∷ 8 ∷ 9 ∷ 11 ∷ 17 ∷ 18 ∷ 19 ∷ 20 ∷ 11 ∷ []
+numbersFor (entry-tokens entries e tokens place) = []
+
+-- the runs that it may write hold what they held; the one-call parse's work area is spoken of apart
+abbrev pub LentKept : PublicCall → Type 0
+LentKept (number-of refusal) = Unit {0}
+LentKept (value-of refusal) = Unit {0}
+LentKept (check-symbols words) = Unit {0}
+LentKept (check-words words) = Unit {0}
+LentKept (load words bytes) = loadBytes words bytes ≡ bytes
+LentKept (left-set words k) = Unit {0}
+LentKept (right-set words k) = Unit {0}
+LentKept (in-shape words matrix area) = Unit {0}
+LentKept (start words matrix tokens cuts area) = startArea words matrix tokens cuts area ≡ area
+LentKept (step words matrix area c) = stepArea words matrix area c ≡ area
+LentKept (run words matrix area c budget) = runArea words matrix area c budget ≡ area
+LentKept (join words matrix area c) = joinArea words matrix area c ≡ area
+LentKept (report words matrix area out) = reportOut words matrix area out ≡ out
+LentKept (parse words tokens area out) = parseOut words tokens (length area) out ≡ out
+LentKept (entry-tokens entries e tokens place) = Unit {0}
+
+-- how many words an area tells that it needs
+abbrev pub needIn : List ℕ → ℕ
+needIn area = need (getD area 0 0) (getD area 1 0)
+
+-- accepted or refused, nothing changes beyond the words or bytes that the call counts; a lent area's words have 16 bits
+abbrev pub BeyondKept : PublicCall → Type 0
+BeyondKept (number-of refusal) = Unit {0}
+BeyondKept (value-of refusal) = Unit {0}
+BeyondKept (check-symbols words) = Unit {0}
+BeyondKept (check-words words) = Unit {0}
+BeyondKept (load words bytes) = drop 4096 (loadBytes words bytes) ≡ drop 4096 bytes
+BeyondKept (left-set words k) = Unit {0}
+BeyondKept (right-set words k) = Unit {0}
+BeyondKept (in-shape words matrix area) = Unit {0}
+BeyondKept (start words matrix tokens cuts area) =
+    drop (need (length tokens) (length cuts + 1)) (startArea words matrix tokens cuts area) ≡ drop (need (length tokens) (length cuts + 1)) area
+BeyondKept (step words matrix area c) = getD area 2 0 < 65536 → drop (needIn area) (stepArea words matrix area c) ≡ drop (needIn area) area
+BeyondKept (run words matrix area c budget) = getD area 2 0 < 65536 → drop (needIn area) (runArea words matrix area c budget) ≡ drop (needIn area) area
+BeyondKept (join words matrix area c) = getD area 2 0 < 65536 → drop (needIn area) (joinArea words matrix area c) ≡ drop (needIn area) area
+BeyondKept (report words matrix area out) =
+    (entries moves : ℕ) → reportAnswer words matrix area (length out) ≡ Report entries moves
+    → drop (3 * entries) (reportOut words matrix area out) ≡ drop (3 * entries) out
+BeyondKept (parse words tokens area out) =
+    (entries moves : ℕ) → parseAnswer words tokens (length area) (length out) ≡ Report entries moves
+    → drop (3 * entries) (parseOut words tokens (length area) out) ≡ drop (3 * entries) out
+BeyondKept (entry-tokens entries e tokens place) = Unit {0}

@@ -1,0 +1,132 @@
+// The one-call parse: load and start, the moves of chunk 0 until it rests, the row's outcome read off the words, and the words cleared.
+use crate::calls;
+use language::Answer;
+use language::Refusal;
+use language::ReportAnswer;
+ghost use mathlib.Core.Path.{_≡_};
+ghost use mathlib.Core.List.{_++_};
+ghost use Prim.Native.Nat.{_+_, _*_, _≤_};
+ghost use lib.ListN.{length, take, drop};
+ghost use Rattle.machine.specs.Answers.{outcomeAnswer, outcomeOut};
+ghost use Rattle.area.specs.Layout.{need, zeros};
+ghost use Rattle.report.specs.OutcomeWords.{stuckRefusal, wordsOutcome};
+ghost use Rattle.reader.specs.ParseCall.{parseOutcome, parseAnswer, parseArea, parseOut};
+ghost use Rattle.reader.specs.ParseLaws.{Begun, Finished};
+
+// The refusal of a row stuck with this status at this place.
+fn refusal_of(status: u16, place: u32) -> Refusal
+    ensures { λ r. ⌜ r ≡ stuckRefusal status place ⌝ }
+{
+    if status == 17 {
+        return Refusal::NoRelation(place);
+    }
+    if status == 18 {
+        return Refusal::NoRule(place);
+    }
+    if status == 19 {
+        return Refusal::NotAxiom(place);
+    }
+    Refusal::SideBySide(place)
+}
+
+// The count of moves, which stands in two words.
+fn moves_of(low: u16, high: u16) -> u32
+    ensures { λ r. ⌜ r ≡ low + 65536 * high ⌝ }
+{
+    (low as u32) + 65536 * (high as u32)
+}
+
+// So many words of an area, from word `at` on, put in at the front of a run.
+fn put_words(area: &[u16], at: usize, count: usize, out: &mut [u16])
+    requires { ⌜ (at + count ≤ length (now area)) × (count ≤ length (now out)) ⌝ }
+    ensures { λ _. ⌜ now (out .exit) ≡ take count (drop at (now (area .entry))) ++ drop count (now (out .entry)) ⌝ }
+{
+    let mut i = 0;
+    while i < count {
+        out[i] = area[at + i];
+        i += 1;
+    }
+}
+
+// The answer of a row at rest, whose report is written where there is one and room for it: its reductions stand in order.
+fn outcome(area: &[u16], out: &mut [u16]) -> ReportAnswer
+    requires { ⌜ Finished (now area) ⌝ }
+    ensures { λ r. ⌜ r ≡ outcomeAnswer (wordsOutcome (now (area .entry))) (length (now (out .entry))) ⌝ }
+    ensures { λ _. ⌜ now (out .exit) ≡ outcomeOut (wordsOutcome (now (area .entry))) (now (out .entry)) ⌝ }
+{
+    let status = area[5];
+    let head = area[7];
+    if 17 <= status {
+        return ReportAnswer::Refused(refusal_of(status, (head - 1) as u32));
+    }
+    let count = area[4] as u32;
+    let size = 3 * (count as usize);
+    if out.len() < size {
+        return ReportAnswer::Refused(Refusal::NoRoom(3 * count));
+    }
+    put_words(area, 18 + 4 * (area[0] as usize), size, out);
+    ReportAnswer::Report(count, moves_of(area[2], area[3]))
+}
+
+// Puts 0 at the first words of an area.
+fn clear(area: &mut [u16], count: usize)
+    requires { ⌜ count ≤ length (now area) ⌝ }
+    ensures { λ _. ⌜ now (area .exit) ≡ zeros count ++ drop count (now (area .entry)) ⌝ }
+{
+    let mut i = 0;
+    while i < count {
+        area[i] = 0;
+        i += 1;
+    }
+}
+
+// The words of a row of n tokens cleared, whatever its answer.
+fn cleared(area: &mut [u16], n: usize, answer: ReportAnswer) -> ReportAnswer
+    requires { ⌜ 7 * n + 18 ≤ length (now area) ⌝ }
+    ensures { λ r. ⌜ r ≡ answer ⌝ }
+    ensures { λ _. ⌜ now (area .exit) ≡ zeros (7 * n + 18) ++ drop (7 * n + 18) (now (area .entry)) ⌝ }
+{
+    clear(area, 7 * n + 18);
+    answer
+}
+
+// A row that has started, read until it rests; its outcome; and then its words cleared.
+fn read_row(
+    words: &[u16],
+    matrix: &[u8],
+    tokens: &[u16],
+    area: &mut [u16],
+    out: &mut [u16],
+) -> ReportAnswer
+    requires { ⌜ Begun (now words) (now matrix) (now tokens) (now area) ⌝ }
+    ensures { λ r. ⌜ r ≡ outcomeAnswer (parseOutcome (now (words .entry)) (now (tokens .entry))) (length (now (out .entry))) ⌝ }
+    ensures { λ _. ⌜ now (area .exit) ≡ zeros (need (length (now (tokens .entry))) 1) ++ drop (need (length (now (tokens .entry))) 1) (now (area .entry)) ⌝ }
+    ensures { λ _. ⌜ now (out .exit) ≡ outcomeOut (parseOutcome (now (words .entry)) (now (tokens .entry))) (now (out .entry)) ⌝ }
+{
+    let n = tokens.len();
+    calls::make_moves(words, matrix, area, 0, 2 * (n as u32) + 2);
+    let answer = outcome(area, out);
+    cleared(area, n, answer)
+}
+
+// The one-call parse, with 4,096 bytes for its matrix.
+pub fn parse_with(
+    words: &[u16],
+    matrix: &mut [u8],
+    tokens: &[u16],
+    area: &mut [u16],
+    out: &mut [u16],
+) -> ReportAnswer
+    requires { ⌜ length (now matrix) ≡ 4096 ⌝ }
+    ensures { λ r. ⌜ r ≡ parseAnswer (now (words .entry)) (now (tokens .entry)) (length (now (area .entry))) (length (now (out .entry))) ⌝ }
+    ensures { λ _. ⌜ now (area .exit) ≡ parseArea (now (words .entry)) (now (tokens .entry)) (now (area .entry)) ⌝ }
+    ensures { λ _. ⌜ now (out .exit) ≡ parseOut (now (words .entry)) (now (tokens .entry)) (length (now (area .entry))) (now (out .entry)) ⌝ }
+{
+    if let Answer::Refused(refusal) = table::load(words, matrix) {
+        return ReportAnswer::Refused(refusal);
+    }
+    if let Answer::Refused(refusal) = area::start(words, matrix, tokens, &tokens[0..0], area) {
+        return ReportAnswer::Refused(refusal);
+    }
+    read_row(words, matrix, tokens, area, out)
+}
