@@ -1,123 +1,101 @@
 -- `vectors::one_case`: the lent parts have the lengths that they are given.
 -- Assumes nothing.
+use borrow.Author.Needs.{needs}
 use native.Mathlib.Omega.{arith}
 use lib.ListN.{length-take}
-use borrow.Author.Needs.{needs}
 use Rattle.vectors.proofs.one_case.Statement.{statement}
 use Rattle.vectors.proofs.one_case.Tie as tie
 use Rattle.vectors.proofs.one_case.Reads as reads
 use Rattle.vectors.proofs.one_case.Lts as lts
-use Rattle.vectors.proofs.next_word.Reads as next-word-reads
-use Rattle.vectors.proofs.read_run.Reads as read-run-reads
-use Rattle.vectors.proofs.start_case.Reads as start-case-reads
-use Rattle.vectors.proofs.table_case.Reads as table-case-reads
+use Rattle.vectors.proofs.grammar_case.Reads as grammar-case-reads
+use Rattle.vectors.proofs.new_grammar.Reads as new-grammar-reads
 
--- src/main.rt:225:9
-next-word-requires : tie.Need-next-word-requires
-next-word-requires c κs = search needs
+-- src/main.rt:72:9
+new-grammar-requires : tie.Need-new-grammar-requires
+new-grammar-requires c κs = tt
 
--- src/main.rt:227:9
-returns : tie.Need-returns
-returns c = search needs
-
--- src/main.rt:229:17
-next-word-requires-2 : tie.Need-next-word-requires-2
-next-word-requires-2 c κs = search needs
-
--- src/main.rt:229:17
-cast-count : tie.Need-cast-count
-cast-count c = search needs
-
--- src/main.rt:231:9
-returns-2 : tie.Need-returns-2
-returns-2 c = search needs
-
--- src/main.rt:233:5
-read-run-requires : tie.Need-read-run-requires
-read-run-requires c κs = search needs
-
--- src/main.rt:235:20
-slice-reshare-prefix-start-case : tie.Need-slice-reshare-prefix-start-case
-slice-reshare-prefix-start-case c = search needs
-
--- src/main.rt:235:20
-slice-aggregate-start-case : tie.Need-slice-aggregate-start-case
-slice-aggregate-start-case c = simp length-take (omega arith)
-
--- src/main.rt:235:9
-start-case-requires : tie.Need-start-case-requires
-start-case-requires c κs = search needs
-
--- src/main.rt:237:26
-slice-reshare-prefix-table-case : tie.Need-slice-reshare-prefix-table-case
-slice-reshare-prefix-table-case c = search needs
-
--- src/main.rt:237:26
-slice-aggregate-table-case : tie.Need-slice-aggregate-table-case
-slice-aggregate-table-case c = simp length-take (omega arith)
-
--- src/main.rt:237:9
-table-case-requires : tie.Need-table-case-requires
-table-case-requires c κs = search needs
-
--- src/main.rt:224:1
+-- src/main.rt:72:9
 same-length : tie.Need-same-length
 same-length c = search needs
 
--- src/main.rt:224:1
+-- src/main.rt:72:9
 same-length-2 : tie.Need-same-length-2
 same-length-2 c = search needs
 
--- src/main.rt:224:1
+-- src/main.rt:72:9
+returns : tie.Need-returns
+returns c = tt
+
+-- src/main.rt:75:9
+returns-2 : tie.Need-returns-2
+returns-2 c = tt
+
+-- src/main.rt:79:9
+slice-relend-prefix-grammar-case : tie.Need-slice-relend-prefix-grammar-case
+slice-relend-prefix-grammar-case c = search needs
+
+-- src/main.rt:79:9
+slice-aggregate-grammar-case : tie.Need-slice-aggregate-grammar-case
+slice-aggregate-grammar-case c = simp length-take (omega arith)
+
+-- src/main.rt:77:5
+grammar-case-requires : tie.Need-grammar-case-requires
+grammar-case-requires c κs = tt
+
+-- src/main.rt:59:1
 same-length-3 : tie.Need-same-length-3
 same-length-3 c = search needs
 
--- src/main.rt:224:1
+-- src/main.rt:59:1
 same-length-4 : tie.Need-same-length-4
 same-length-4 c = search needs
 
--- src/main.rt:224:1
+-- src/main.rt:59:1
 same-length-5 : tie.Need-same-length-5
 same-length-5 c = search needs
 
--- src/main.rt:224:1
-returns-3 : tie.Need-returns-3
-returns-3 c = search needs
-
--- src/main.rt:224:1
+-- src/main.rt:59:1
 same-length-6 : tie.Need-same-length-6
 same-length-6 c = search needs
 
--- src/main.rt:224:1
+-- src/main.rt:59:1
 same-length-7 : tie.Need-same-length-7
 same-length-7 c = search needs
 
--- src/main.rt:224:1
-returns-4 : tie.Need-returns-4
-returns-4 c = search needs
+-- src/main.rt:59:1
+same-length-8 : tie.Need-same-length-8
+same-length-8 c = search needs
+
+-- src/main.rt:59:1
+same-length-9 : tie.Need-same-length-9
+same-length-9 c = search needs
+
+-- src/main.rt:59:1
+same-length-10 : tie.Need-same-length-10
+same-length-10 c = search needs
+
+-- src/main.rt:59:1
+returns-3 : tie.Need-returns-3
+returns-3 c = tt
 
 pub one-case-spec : {M : Type 1} → statement M
 one-case-spec =
     tie.close
     (tie.spec
-    next-word-requires
-    returns
-    next-word-requires-2
-    cast-count
-    returns-2
-    read-run-requires
-    slice-reshare-prefix-start-case
-    slice-aggregate-start-case
-    start-case-requires
-    slice-reshare-prefix-table-case
-    slice-aggregate-table-case
-    table-case-requires
+    new-grammar-requires
     same-length
     same-length-2
+    returns
+    returns-2
+    slice-relend-prefix-grammar-case
+    slice-aggregate-grammar-case
+    grammar-case-requires
     same-length-3
     same-length-4
     same-length-5
-    returns-3
     same-length-6
     same-length-7
-    returns-4)
+    same-length-8
+    same-length-9
+    same-length-10
+    returns-3)

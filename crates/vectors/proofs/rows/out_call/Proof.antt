@@ -1,0 +1,92 @@
+-- `vectors::rows::out_call`: the lent parts have the lengths that they are given.
+-- Assumes nothing.
+use borrow.Author.Needs.{needs}
+use native.Mathlib.Omega.{arith}
+use lib.ListN.{length-take}
+use Rattle.vectors.proofs.rows.out_call.Statement.{statement}
+use Rattle.vectors.proofs.rows.out_call.Tie as tie
+use Rattle.vectors.proofs.rows.out_call.Reads as reads
+use Rattle.vectors.proofs.rows.out_call.Lts as lts
+use Rattle.vectors.proofs.input.next_word.Reads as next-word-reads
+use Rattle.vectors.proofs.rows.parse_call.Reads as parse-call-reads
+use Rattle.vectors.proofs.rows.report_call.Reads as report-call-reads
+
+-- src/rows.rt:113:16
+next-word-requires : tie.Need-next-word-requires
+next-word-requires c κs = tt
+
+-- src/rows.rt:113:16
+cast-room : tie.Need-cast-room
+cast-room c = search needs
+
+-- src/rows.rt:115:9
+returns : tie.Need-returns
+returns c = tt
+
+-- src/rows.rt:118:57
+slice-relend-prefix-report-call : tie.Need-slice-relend-prefix-report-call
+slice-relend-prefix-report-call c = search needs
+
+-- src/rows.rt:118:57
+slice-aggregate-report-call : tie.Need-slice-aggregate-report-call
+slice-aggregate-report-call c = simp length-take (omega arith)
+
+-- src/rows.rt:118:9
+report-call-requires : tie.Need-report-call-requires
+report-call-requires c κs = tt
+
+-- src/rows.rt:118:9
+same-length : tie.Need-same-length
+same-length c = search needs
+
+-- src/rows.rt:118:9
+same-length-2 : tie.Need-same-length-2
+same-length-2 c = search needs
+
+-- src/rows.rt:118:9
+returns-2 : tie.Need-returns-2
+returns-2 c = tt
+
+-- src/rows.rt:120:45
+slice-relend-prefix-parse-call : tie.Need-slice-relend-prefix-parse-call
+slice-relend-prefix-parse-call c = search needs
+
+-- src/rows.rt:120:45
+slice-aggregate-parse-call : tie.Need-slice-aggregate-parse-call
+slice-aggregate-parse-call c = simp length-take (omega arith)
+
+-- src/rows.rt:120:5
+parse-call-requires : tie.Need-parse-call-requires
+parse-call-requires c κs = tt
+
+-- src/rows.rt:103:1
+same-length-3 : tie.Need-same-length-3
+same-length-3 c = search needs
+
+-- src/rows.rt:103:1
+same-length-4 : tie.Need-same-length-4
+same-length-4 c = search needs
+
+-- src/rows.rt:103:1
+returns-3 : tie.Need-returns-3
+returns-3 c = tt
+
+pub out-call-spec : {M : Type 1} → statement M
+out-call-spec =
+    tie.close
+    (tie.spec
+    next-word-requires
+    cast-room
+    returns
+    slice-relend-prefix-report-call
+    slice-aggregate-report-call
+    report-call-requires
+    same-length
+    same-length-2
+    returns-2
+    slice-relend-prefix-parse-call
+    slice-aggregate-parse-call
+    parse-call-requires
+    same-length-3
+    same-length-4
+    returns-3)

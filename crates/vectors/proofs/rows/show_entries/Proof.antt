@@ -1,0 +1,70 @@
+-- `vectors::rows::show_entries` ends: fewer entries are left.
+-- Assumes nothing.
+use borrow.Author.Needs.{needs}
+use Prim.Native.Nat.{_+_, _≤_, _<_, _-_}
+use mathlib.Core.Path.{_≡_}
+use Rattle.vectors.proofs.rows.show_entries.Statement.{statement}
+use Rattle.vectors.proofs.rows.show_entries.Tie as tie
+use Rattle.vectors.proofs.rows.show_entries.Reads as reads
+use Rattle.vectors.proofs.rows.show_entries.Lts as lts
+use Rattle.vectors.proofs.input.next_wide.Reads as next-wide-reads
+use Rattle.vectors.proofs.input.next_word.Reads as next-word-reads
+use Rattle.vectors.proofs.rows.show_entry.Reads as show-entry-reads
+
+abbrev Inv-loop : tie.InvT-loop
+Inv-loop report tokens left₀ left = left ≤ 65536
+
+abbrev μ-loop : tie.MeasureT-loop
+μ-loop report tokens left₀ left = left
+
+-- src/rows.rt:259:9
+next-word-requires : tie.Need-next-word-requires Inv-loop μ-loop
+next-word-requires c κs = tt
+
+-- src/rows.rt:260:5
+loop-holds : tie.Need-loop-holds Inv-loop μ-loop
+loop-holds c = search needs
+
+-- src/rows.rt:261:28
+next-wide-requires : tie.Need-next-wide-requires Inv-loop μ-loop
+next-wide-requires c κs = tt
+
+-- src/rows.rt:261:28
+cast-show-entry : tie.Need-cast-show-entry Inv-loop μ-loop
+cast-show-entry c = search needs
+
+-- src/rows.rt:261:9
+show-entry-requires : tie.Need-show-entry-requires Inv-loop μ-loop
+show-entry-requires c κs = tt
+
+-- src/rows.rt:262:9
+sub-left : tie.Need-sub-left Inv-loop μ-loop
+sub-left c = search needs
+
+-- src/rows.rt:260:5
+loop-less : tie.Need-loop-less Inv-loop μ-loop
+loop-less c = search needs
+
+-- src/rows.rt:260:5
+loop-again : tie.Need-loop-again Inv-loop μ-loop
+loop-again c = search needs
+
+-- src/rows.rt:258:1
+returns : tie.Need-returns Inv-loop μ-loop
+returns c = tt
+
+pub show-entries-spec : {M : Type 1} → statement M
+show-entries-spec =
+    tie.close
+    (tie.spec
+    Inv-loop
+    μ-loop
+    next-word-requires
+    loop-holds
+    next-wide-requires
+    cast-show-entry
+    show-entry-requires
+    sub-left
+    loop-less
+    loop-again
+    returns)

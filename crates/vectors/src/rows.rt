@@ -1,0 +1,305 @@
+// Cases of rows: a row is read into the buffers, and then a schedule is called, each call a word, call + 16 * chunk:
+//     1 start    2 step    3 run, and its budget    4 join    5 the schedule of the program `rows`, over so many chunks
+//     6 report, and the words of its run            7 the one-call parse, likewise
+//     8 the area is kept    9 it is as it was kept
+//     10, 11, 12 a word of the area, a byte of the matrix, a word of the grammar is changed: its place and the new value
+//     13 the area's words are shown                 14 the first words of the report's run are shown
+// 0 ends the schedule. A call answers its number, value and moves, and the sum of what it was lent to write.
+use crate::input;
+use crate::shown;
+use crate::shown::Told;
+
+// A run's budget; 65,535 stands for the greatest.
+fn next_budget() -> u32 {
+    let word = input::next_word();
+    if word < 65535 {
+        return word;
+    }
+    4294967295
+}
+
+// A call that makes one move or some.
+fn moving_call(call: u32, chunk: usize, words: &[u16], matrix: &[u8], area: &mut [u16]) -> Told {
+    if call == 2 {
+        return shown::told_answer(reader::step(words, matrix, area, chunk));
+    }
+    if call == 3 {
+        let budget = next_budget();
+        return shown::told_run(reader::run(words, matrix, area, chunk, budget));
+    }
+    shown::told_answer(reader::join(words, matrix, area, chunk))
+}
+
+// Each chunk is run until it rests.
+fn run_all(words: &[u16], matrix: &[u8], area: &mut [u16], chunks: usize) {
+    let mut c = 0;
+    while c < chunks {
+        reader::run(words, matrix, area, c, 4294967295);
+        c += 1;
+    }
+}
+
+// Chunk 0 is joined rightwards, and run until it rests after each join.
+fn join_all(words: &[u16], matrix: &[u8], area: &mut [u16], chunks: usize) {
+    let mut c = 1;
+    while c < chunks {
+        reader::join(words, matrix, area, 0);
+        reader::run(words, matrix, area, 0, 4294967295);
+        c += 1;
+    }
+}
+
+// A call that is lent the area to write.
+fn area_call(
+    call: u32,
+    chunk: usize,
+    words: &[u16],
+    matrix: &[u8],
+    tokens: &[u16],
+    cuts: &[u16],
+    area: &mut [u16],
+) -> Told {
+    if call == 1 {
+        return shown::told_answer(area::start(words, matrix, tokens, cuts, area));
+    }
+    if call == 5 {
+        run_all(words, matrix, area, chunk);
+        join_all(words, matrix, area, chunk);
+        return shown::nothing();
+    }
+    moving_call(call, chunk, words, matrix, area)
+}
+
+// The report into a run of nines, and the run's sum.
+fn report_call(
+    before: u64,
+    words: &[u16],
+    matrix: &[u8],
+    area: &[u16],
+    out: &mut [u16],
+    aloud: bool,
+) -> u64 {
+    input::fill_words(out, 9);
+    let it = shown::told_report(report::report(words, matrix, area, out));
+    shown::tell(before, it, shown::sum_of_words(out), aloud)
+}
+
+// The one-call parse, with a report's run of nines, and the sums of area and run.
+fn parse_call(
+    before: u64,
+    words: &[u16],
+    tokens: &[u16],
+    area: &mut [u16],
+    out: &mut [u16],
+    aloud: bool,
+) -> u64 {
+    input::fill_words(out, 9);
+    let it = shown::told_report(reader::parse(words, tokens, area, out));
+    let sum = shown::folded(shown::sum_of_words(area), shown::sum_of_words(out));
+    shown::tell(before, it, sum, aloud)
+}
+
+// A call that is lent a report's run to write.
+fn out_call(
+    before: u64,
+    call: u32,
+    words: &[u16],
+    matrix: &[u8],
+    tokens: &[u16],
+    area: &mut [u16],
+    out: &mut [u16],
+    aloud: bool,
+) -> u64 {
+    let room = input::next_word() as usize;
+    if out.len() < room {
+        return before;
+    }
+    if call == 6 {
+        return report_call(before, words, matrix, area, &mut out[..room], aloud);
+    }
+    parse_call(before, words, tokens, area, &mut out[..room], aloud)
+}
+
+// The area kept, put back, or one thing changed.
+fn change(call: u32, words: &mut [u16], matrix: &mut [u8], area: &mut [u16], kept: &mut [u16]) {
+    if call == 8 {
+        input::copy_words(area, kept);
+        return;
+    }
+    if call == 9 {
+        input::copy_words(kept, area);
+        return;
+    }
+    let at = input::next_word() as usize;
+    let value = input::next_value();
+    if call == 10 {
+        input::change_word(area, at, value);
+        return;
+    }
+    if call == 11 {
+        input::change_byte(matrix, at, value);
+        return;
+    }
+    input::change_word(words, at, value);
+}
+
+// The words of the area, or the first ones of the report's run.
+fn show_row(call: u32, area: &[u16], out: &[u16]) {
+    if call == 13 {
+        shown::show_words(area);
+        return;
+    }
+    let count = input::next_word() as usize;
+    if out.len() < count {
+        return;
+    }
+    shown::show_words(&out[..count]);
+}
+
+// One call of a schedule, and the sum of all the answers so far.
+fn one_call(
+    before: u64,
+    call: u32,
+    chunk: usize,
+    words: &mut [u16],
+    matrix: &mut [u8],
+    tokens: &[u16],
+    cuts: &[u16],
+    area: &mut [u16],
+    kept: &mut [u16],
+    out: &mut [u16],
+    aloud: bool,
+) -> u64 {
+    if call < 6 {
+        let it = area_call(call, chunk, words, matrix, tokens, cuts, area);
+        return shown::tell(before, it, shown::sum_of_words(area), aloud);
+    }
+    if call < 8 {
+        return out_call(before, call, words, matrix, tokens, area, out, aloud);
+    }
+    if call < 13 {
+        change(call, words, matrix, area, kept);
+        return before;
+    }
+    show_row(call, area, out);
+    before
+}
+
+// A schedule to its end, and the sum of all its answers.
+fn schedule(
+    words: &mut [u16],
+    matrix: &mut [u8],
+    tokens: &[u16],
+    cuts: &[u16],
+    area: &mut [u16],
+    kept: &mut [u16],
+    out: &mut [u16],
+    aloud: bool,
+) -> u64 {
+    let mut sum = 0;
+    let mut left: u32 = 1000000;
+    while 0 < left {
+        let word = input::next_word();
+        let call = word % 16;
+        if call == 0 {
+            return sum;
+        }
+        let chunk = (word / 16) as usize;
+        sum = one_call(
+            sum,
+            call,
+            chunk,
+            words,
+            matrix,
+            tokens,
+            cuts,
+            area,
+            kept,
+            out,
+            aloud,
+        );
+        left -= 1;
+    }
+    sum
+}
+
+// A row in an area of nines, and the sum of its schedule.
+fn row_with(
+    words: &mut [u16],
+    matrix: &mut [u8],
+    tokens: &[u16],
+    cuts: &[u16],
+    area: &mut [u16],
+    kept: &mut [u16],
+    out: &mut [u16],
+    aloud: bool,
+) {
+    input::fill_words(area, 9);
+    let sum = schedule(words, matrix, tokens, cuts, area, kept, out, aloud);
+    shown::show(sum);
+    shown::line_end();
+}
+
+// Kinds 4 and 5: tokens, cuts, how many words the area has, and a schedule, whose answers kind 4 shows one by one.
+pub fn row_case(
+    kind: u32,
+    words: &mut [u16],
+    matrix: &mut [u8],
+    tokens: &mut [u16],
+    cuts: &mut [u16],
+    area: &mut [u16],
+    kept: &mut [u16],
+    out: &mut [u16],
+) {
+    let n = input::read_run(tokens);
+    let chunks = input::read_run(cuts);
+    let room = input::next_wide() as usize;
+    if tokens.len() < n {
+        return;
+    }
+    if cuts.len() < chunks {
+        return;
+    }
+    if area.len() < room {
+        return;
+    }
+    row_with(
+        words,
+        matrix,
+        &tokens[..n],
+        &cuts[..chunks],
+        &mut area[..room],
+        kept,
+        out,
+        kind == 4,
+    );
+}
+
+// The tokens of one report entry: how many, and which.
+fn show_entry(report: &[u16], entry: usize, tokens: &[u16]) {
+    let part = report::entry_tokens(report, entry, tokens);
+    shown::show(part.len() as u64);
+    shown::show_words(part);
+}
+
+// The tokens of so many entries of a report's run.
+fn show_entries(report: &[u16], tokens: &[u16]) {
+    let mut left = input::next_word();
+    while 0 < left {
+        show_entry(report, input::next_wide() as usize, tokens);
+        left -= 1;
+    }
+}
+
+// Kind 7: tokens, a report's run, and the entries whose tokens are asked.
+pub fn entries_case(tokens: &mut [u16], out: &mut [u16]) {
+    let n = input::read_run(tokens);
+    let size = input::read_run(out);
+    if tokens.len() < n {
+        return;
+    }
+    if out.len() < size {
+        return;
+    }
+    show_entries(&out[..size], &tokens[..n]);
+}

@@ -1,0 +1,171 @@
+// The output: answers as numbers, sums of what is lent, and the two put together.
+use crate::input::wide_byte;
+use language::Answer;
+use language::Refusal;
+use language::ReportAnswer;
+use language::RunAnswer;
+use language::SetAnswer;
+use libc::STDOUT_FILENO;
+ghost use Prim.Native.Nat.{_<_};
+
+// What a call answered: number and value of a refusal; or 0, what it counted, and for a report the moves since start.
+pub struct Told {
+    pub number: u32,
+    pub value: u32,
+    pub moves: u32,
+}
+
+fn space() {
+    io::write_all(STDOUT_FILENO, b" ");
+}
+
+pub fn line_end() {
+    io::write_all(STDOUT_FILENO, b"\n");
+}
+
+pub fn show(n: u64) {
+    io::print_decimal(STDOUT_FILENO, n);
+    space();
+}
+
+fn refused(refusal: Refusal) -> Told {
+    Told {
+        number: language::number(refusal),
+        value: language::value(refusal),
+        moves: 0,
+    }
+}
+
+// Nothing was asked for that could be called.
+pub fn nothing() -> Told {
+    Told {
+        number: 0,
+        value: 0,
+        moves: 0,
+    }
+}
+
+pub fn told_answer(answer: Answer) -> Told {
+    match answer {
+        Answer::Done => nothing(),
+        Answer::Refused(refusal) => refused(refusal),
+    }
+}
+
+pub fn told_run(answer: RunAnswer) -> Told {
+    match answer {
+        RunAnswer::Moves(made) => Told {
+            number: 0,
+            value: made,
+            moves: 0,
+        },
+        RunAnswer::Refused(refusal) => refused(refusal),
+    }
+}
+
+pub fn told_report(answer: ReportAnswer) -> Told {
+    match answer {
+        ReportAnswer::Report(entries, moves) => Told {
+            number: 0,
+            value: entries,
+            moves: moves,
+        },
+        ReportAnswer::Refused(refusal) => refused(refusal),
+    }
+}
+
+// Number and value of an answer.
+pub fn show_answer(answer: Answer) {
+    let it = told_answer(answer);
+    show(it.number as u64);
+    show(it.value as u64);
+}
+
+// Number, value and size of a set's answer.
+pub fn show_set(answer: SetAnswer) {
+    match answer {
+        SetAnswer::Terminals(mask, size) => {
+            show(0);
+            show(mask);
+            show(size as u64);
+        }
+        SetAnswer::Refused(refusal) => {
+            show(language::number(refusal) as u64);
+            show(language::value(refusal) as u64);
+            show(0);
+        }
+    }
+}
+
+// A sum that tells numbers at their places apart, with one more number.
+pub fn folded(sum: u64, one: u64) -> u64 {
+    ((sum % 4294967291) * 31 + one % 4294967291 + 1) % 4294967291
+}
+
+fn wide_word(word: u16) -> u64 {
+    word as u64
+}
+
+// The sum of a run of bytes, and of words.
+pub fn sum_of_bytes(bytes: &[u8]) -> u64 {
+    let mut sum: u64 = 0;
+    let mut i = 0;
+    while i < bytes.len() {
+        sum = folded(sum, wide_byte(bytes[i]));
+        i += 1;
+    }
+    sum
+}
+
+pub fn sum_of_words(words: &[u16]) -> u64 {
+    let mut sum: u64 = 0;
+    let mut i = 0;
+    while i < words.len() {
+        sum = folded(sum, wide_word(words[i]));
+        i += 1;
+    }
+    sum
+}
+
+// The bytes that are not 0, each after its place.
+pub fn show_bytes(bytes: &[u8]) {
+    let mut i = 0;
+    while i < bytes.len() {
+        let byte = wide_byte(bytes[i]);
+        if byte != 0 {
+            show(i as u64);
+            show(byte);
+        }
+        i += 1;
+    }
+}
+
+// All the words of a run.
+pub fn show_words(words: &[u16]) {
+    let mut i = 0;
+    while i < words.len() {
+        show(wide_word(words[i]));
+        i += 1;
+    }
+    line_end();
+}
+
+// An answer and a sum of what was lent, on a line of their own where that is asked.
+fn show_told(it: Told, sum: u64) {
+    show(it.number as u64);
+    show(it.value as u64);
+    show(it.moves as u64);
+    show(sum);
+    line_end();
+}
+
+// An answer and a sum of what was lent, as one more of the sums before.
+pub fn tell(before: u64, it: Told, sum: u64, aloud: bool) -> u64 {
+    if aloud {
+        show_told(it, sum);
+    }
+    let a = folded(before, it.number as u64);
+    let b = folded(a, it.value as u64);
+    let c = folded(b, it.moves as u64);
+    folded(c, sum)
+}
