@@ -1,0 +1,100 @@
+// An answer as numbers, for callers that know no enum: its number, 0 on success, and what it gives besides.
+use language::Answer;
+use language::ReportAnswer;
+use language::RunAnswer;
+use language::SetAnswer;
+ghost use mathlib.Core.Path.{_≡_};
+ghost use Rattle.language.specs.Refusals.{answerNumber, answerValue, setNumber, setValue, setSize, runNumber, runValue, reportNumber, reportValue, reportMoves};
+
+pub fn number(answer: Answer) -> u32
+    ensures { λ r. ⌜ r ≡ answerNumber answer ⌝ }
+{
+    match answer {
+        Answer::Done => 0,
+        Answer::Refused(refusal) => language::number(refusal),
+    }
+}
+
+pub fn value(answer: Answer) -> u32
+    ensures { λ r. ⌜ r ≡ answerValue answer ⌝ }
+{
+    match answer {
+        Answer::Done => 0,
+        Answer::Refused(refusal) => language::value(refusal),
+    }
+}
+
+pub fn set_number(answer: SetAnswer) -> u32
+    ensures { λ r. ⌜ r ≡ setNumber answer ⌝ }
+{
+    match answer {
+        SetAnswer::Terminals(_, _) => 0,
+        SetAnswer::Refused(refusal) => language::number(refusal),
+    }
+}
+
+// The mask of a set, or the value of a refusal.
+pub fn set_value(answer: SetAnswer) -> u64
+    ensures { λ r. ⌜ r ≡ setValue answer ⌝ }
+{
+    match answer {
+        SetAnswer::Terminals(mask, _) => mask,
+        SetAnswer::Refused(refusal) => language::value(refusal) as u64,
+    }
+}
+
+pub fn set_size(answer: SetAnswer) -> u32
+    ensures { λ r. ⌜ r ≡ setSize answer ⌝ }
+{
+    match answer {
+        SetAnswer::Terminals(_, size) => size,
+        SetAnswer::Refused(_) => 0,
+    }
+}
+
+pub fn run_number(answer: RunAnswer) -> u32
+    ensures { λ r. ⌜ r ≡ runNumber answer ⌝ }
+{
+    match answer {
+        RunAnswer::Moves(_) => 0,
+        RunAnswer::Refused(refusal) => language::number(refusal),
+    }
+}
+
+// The moves made, or the value of a refusal.
+pub fn run_value(answer: RunAnswer) -> u32
+    ensures { λ r. ⌜ r ≡ runValue answer ⌝ }
+{
+    match answer {
+        RunAnswer::Moves(made) => made,
+        RunAnswer::Refused(refusal) => language::value(refusal),
+    }
+}
+
+pub fn report_number(answer: ReportAnswer) -> u32
+    ensures { λ r. ⌜ r ≡ reportNumber answer ⌝ }
+{
+    match answer {
+        ReportAnswer::Report(_, _) => 0,
+        ReportAnswer::Refused(refusal) => language::number(refusal),
+    }
+}
+
+// The number of entries, or the value of a refusal.
+pub fn report_value(answer: ReportAnswer) -> u32
+    ensures { λ r. ⌜ r ≡ reportValue answer ⌝ }
+{
+    match answer {
+        ReportAnswer::Report(entries, _) => entries,
+        ReportAnswer::Refused(refusal) => language::value(refusal),
+    }
+}
+
+pub fn report_moves(answer: ReportAnswer) -> u32
+    ensures { λ r. ⌜ r ≡ reportMoves answer ⌝ }
+{
+    match answer {
+        ReportAnswer::Report(_, moves) => moves,
+        ReportAnswer::Refused(_) => 0,
+    }
+}
