@@ -21,7 +21,7 @@ from pathlib import Path
 
 sys.dont_write_bytecode = True
 
-from call_cases import rows, schedule, tables, texts  # noqa: E402
+from call_cases import lesson, rows, schedule, tables, texts  # noqa: E402
 
 GIVES = {
     "start": {0, 7, 8, 9, 10, 11, 15},
@@ -47,7 +47,7 @@ def main(arguments):
         return 2
     rng = random.Random(f"calls {arguments[0]}")
     given, wanted, count = bytearray(), [], 0
-    for part in (tables, rows, texts):
+    for part in (tables, rows, texts, lesson):
         for words, text in part.cases(rng):
             given += struct.pack(f"<{len(words)}H", *words)
             wanted.append(text)
