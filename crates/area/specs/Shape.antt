@@ -3,7 +3,7 @@
 -- Document 01, 15 BAD STATE: "grammar, matrix or work area breaks the shape rules listed in docs/".
 -- Rests on Layout's places of words, and on language's Checks.
 --
--- Main definitions: ruleA .. ruleK, inShape, grammarInShape.
+-- Main definitions: ruleA, ruleB, ruleC; (d) to (h) in one walk of the chunk table, walked; ruleI, ruleJ, ruleK; inShape, grammarInShape.
 use mathlib.Core.Bool.{Bool, true, false}
 use mathlib.Core.List.{List, [], _∷_}
 use Prim.Native.Nat.{ℕ, zero, suc, _+_, _*_, _-_, _/_, _%_, pred}

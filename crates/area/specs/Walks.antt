@@ -4,7 +4,7 @@
 -- t, N: how many terminals and nonterminals the grammar has; n: how many tokens the row has.
 -- Rests on Sides and Rising.
 --
--- Main definitions: Fits, AllFit, walkedAll, Counted. Main statements: walk-passes, counted-all, walk-reads.
+-- Main definitions: Fits, AllFit, walkedAll, Counted. Main statements: walk-passes, counted-all.
 use mathlib.Core.Path.{_≡_, refl, sym, ap, _∙_}
 use mathlib.Core.Bool.{true, false}
 use mathlib.Core.List.{List, [], _∷_, _++_, append-assoc, map, reverse}

@@ -5,7 +5,7 @@
 -- rules gets the move named above": the state is any that keeps the rules, reached or not, with any words and matrix that do. "Doing
 -- nothing on a move, or leaving chunks untouched until one call does the whole row" is so shut out, and so is an invented count.
 -- A lent area in shape holds such a state: the one it decodes to. Its words have 16 bits, so its word 2 is below 65,536.
--- Rests on OnWords, on machine's AllowedExactly and Counts, and area's InShape, Decode and Safe.
+-- Rests on OnWords, on machine's AllowedExactly and Counts, and area's InShape and Safe.
 --
 -- Main definitions: NamedMoves, RunNamed; StepLeaves, RunLeaves, JoinLeaves. Main statements: step-demand, run-demand, join-demand; of a lent area: lent-state.
 use mathlib.Core.Path.{_≡_, refl, sym, ap, _∙_}

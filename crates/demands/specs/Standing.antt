@@ -1,7 +1,7 @@
 -- What stands in the area after one accepted load, one accepted start and any list of step, run and join calls: the words of a state
 -- that the machine's named moves reach from the start, as many of them as the calls' answers tell of.
 -- Document 01, "Moves of a chunk", and 15: "never .. for a state reached from such a load and start with those same words and matrix".
--- Rests on Calls, OnWords and OwnMatrix, on area's Safe and StartKept, and on machine's Schedules, Counts and GivenExactly.
+-- Rests on Calls, OnWords and OwnMatrix, on area's Start and Safe, and on machine's Schedules, Counts and GivenExactly.
 --
 -- Main definitions: Standing, CallView. Main statements: standing-begun, call-view, standing-call, standing-after.
 use mathlib.Core.Path.{_≡_, refl, sym, ap, subst, _∙_}

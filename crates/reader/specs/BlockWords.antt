@@ -1,6 +1,6 @@
 -- A symbol's block of words where it stands: its words one by one, its clearing, and its laying on zeros.
 -- docs/AREA.md: a symbol over k slots is 4k words, symbol, mark, k, zeros, and k again.
--- Rests on MoveWords, and on area's Layout and Lengths, laws' Parts.
+-- Rests on MoveWords, on area's Layout and laws' Parts.
 --
 -- Main statements: first-word, mark-word, size-word, last-word, start-is; cleared-one (its clearing), laid (its laying).
 use mathlib.Core.Path.{_≡_, refl, sym, ap, _∙_}

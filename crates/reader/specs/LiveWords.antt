@@ -1,6 +1,6 @@
 -- Which numbers are live, off the status words of the table: number c, and the next live one after it.
 -- Document 01: "12 NO CHUNK: number not live"; "Joining chunk c to the next live chunk"; docs/AREA.md: a gone chunk's row is zeros.
--- Rests on AroundChunk and JoinLaw, on machine's AllowedExactly, and on laws' Least.
+-- Rests on AroundChunk, on machine's AllowedExactly, and on laws' Least.
 --
 -- Main definitions: isLive, NextIs. Main statements: live-status, live-number, number-live, next-status.
 use mathlib.Core.Path.{_≡_, refl, sym, ap, _∙_}

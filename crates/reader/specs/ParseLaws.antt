@@ -1,7 +1,7 @@
 -- The one-call parse by what its code finds in the words: a row that has started, read until it rests, and what its words then say.
 -- Document 01: "The front-to-back parse is C = 1, also offered as one call"; 17 to 20 "the finished row stuck so"; "The report": an uncut row's
 -- reductions are made in the report's order, so that nothing is left to put in order.
--- Rests on ParseCall and RunMoves, on machine's UncutRow and ReadThrough, area's StartKept, Safe, InShape and Decode, and report's OutcomeWords.
+-- Rests on ParseCall and RunMoves, on machine's UncutRow and ReadThrough, area's Start, Safe, InShape and Decode, and report's OutcomeWords.
 --
 -- Main definitions: Begun (a row has started), Finished (its words once it rests), Parsed.
 -- Main statements: begun-runs, begun-few, begun-parsed, row-read; not-loaded, not-started, begun, parsed.

@@ -2,7 +2,7 @@
 -- Document 01, "Moves of a chunk": "the handle runs from the topmost marked one to the top, with the nonterminal just below that mark
 -- if there is one. If a rule has this right side, replace it by the left side of the least such rule, b staying unread"; "The report":
 -- "rule, first place, place after the last".
--- Rests on AroundChunk, KeptAround, BlockWords and MoveWords, on area's Tiling and on machine's Allowed.
+-- Rests on AroundChunk, HandleSlots, BlockWords and MoveWords, on area's Encoded and on machine's Allowed.
 --
 -- Main statements: reduce-law, reduce-ready.
 use mathlib.Core.Path.{_≡_, refl, sym, ap, _∙_}

@@ -1,7 +1,7 @@
 -- *Shape kept*: a step, a run and a join of an area in shape leave it in shape, whatever state it holds and whatever they answer.
 -- Document 01: 15 is never given "for a state reached from such a load and start with those same words and matrix"; "Any other state
 -- that keeps the shape rules gets the move named above." So a call that follows a call never answers 15 where the first did not.
--- Rests on Calls and CallLaws, and on area's Safe and InShape. Every lent word is below 65,536; of the area's words one is asked.
+-- Rests on Calls, and on area's Safe and InShape. Every lent word is below 65,536; of the area's words one is asked.
 --
 -- Main statements: step-keeps, run-keeps, join-keeps.
 use mathlib.Core.Path.{_≡_, refl}

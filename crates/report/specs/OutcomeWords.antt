@@ -2,7 +2,7 @@
 -- the reductions made and the count of moves. Nothing is parsed anew.
 -- Document 01: "a report writes just these reductions, put in order, and gives this count, and parses nothing anew"; "16 UNFINISHED:
 -- several chunks live, or the one not at rest"; "17 .. 20: the finished row stuck so", with the place of the unread symbol.
--- Rests on area's Layout, Kept, Encoded and InShape, and on machine's States.
+-- Rests on area's Layout, Kept, Encoded and ShapeExactly, and on machine's States.
 --
 -- Main definitions: noneLive, stuckRefusal, wordsOutcome, Reportable. Main statements: outcome-words, reportable.
 use mathlib.Core.Path.{_≡_, refl, sym, ap, _∙_}

@@ -6,7 +6,7 @@
 -- Rests on Edges and MaskRows, and on language's SetMasks.
 --
 -- Main definitions: brought, gained, Sound, Changed, Grown, Members, AreSets.
--- Main statements: gained-sound (no pass brings anything else), gained-grown (a rule that changes a mask adds a member),
+-- Main statements: gained-sound (no pass brings anything else), gained-changed (a rule that changes a mask adds a member),
 -- rests-members (masks that no rule changes are the sets), members-set (and equal the definition's mask).
 use mathlib.Core.Path.{_≡_, refl, sym, ap, _∙_}
 use mathlib.Core.Logic.{_↔_, _⊎_, inl, inr}

@@ -3,7 +3,7 @@
 -- Document 01, "Sets and matrix": "equal (2): some right side has a then b, or a, one nonterminal, b. yields (1): some right side
 -- has a then nonterminal D, and b is in D's left set. takes (3): some right side has nonterminal D then b, and a is in D's right
 -- set."
--- Rests on Edges, MaskRows and SetPasses, and on language's RelationTests.
+-- Rests on Edges, MaskRows and SetPasses, and on language's SetMasks.
 --
 -- Main definitions: holds, Adds, here, pairShown, anywhere, Walked.
 -- Main statements: pair-adds (what a pair of neighbours adds), walked-step, walked-end (what a right side adds).
