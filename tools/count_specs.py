@@ -287,14 +287,14 @@ def names_in(lines):
 
 def reached(roots, files, tied=None):
     """roots: list of (block, why). Returns {key: (block, from)}. A tied definition is not gone into, but its theorems are."""
-    found, todo, passed = {}, list(roots), set()
-    while todo:
-        block, why = todo.pop()
+    found, waiting, passed = {}, list(roots), set()
+    while waiting:
+        block, why = waiting.pop()
         if block.key() in found or block.key() in passed:
             continue
         if tied and block.key() in tied:
             passed.add(block.key())
-            todo += [(files[(c, f)].theorems[n], "tie") for c, f, n in tied[block.key()]]
+            waiting += [(files[(c, f)].theorems[n], "tie") for c, f, n in tied[block.key()]]
             continue
         found[block.key()] = (block, why)
         f = files[(block.crate, block.file)]
@@ -305,7 +305,7 @@ def reached(roots, files, tied=None):
                 continue
             r = resolve(w, f, files)
             if r and r[0].kind != "theorem":
-                todo.append((r[0], block.crate + "/" + block.file + "." + block.name))
+                waiting.append((r[0], block.crate + "/" + block.file + "." + block.name))
     return found
 
 

@@ -256,18 +256,18 @@ def derived_row(rng, grammar, most):
         return None if None in parts else 1 + max(parts, default=0)
 
     ranks = {number: rank(rule) for number, rule in enumerate(grammar.rules)}
-    row, todo = [], [nt(rng.choice(axioms))]
-    while todo:
-        symbol = todo.pop()
+    row, waiting = [], [nt(rng.choice(axioms))]
+    while waiting:
+        symbol = waiting.pop()
         if not is_nonterminal(symbol):
             row.append(symbol)
             continue
         k = symbol - NONTERMINAL
         options = [r for r, rule in enumerate(grammar.rules) if rule.left == k and ranks[r] is not None]
-        if len(row) + len(todo) >= most or rng.random() < 0.1:
+        if len(row) + len(waiting) >= most or rng.random() < 0.1:
             least = min(ranks[r] for r in options)
             options = [r for r in options if ranks[r] == least]
-        todo.extend(reversed(grammar.rules[rng.choice(options)].right))
+        waiting.extend(reversed(grammar.rules[rng.choice(options)].right))
         if len(row) > 4 * most:
             return None
     return row

@@ -4,7 +4,7 @@ from pathlib import Path
 
 from grugalash_reference.rows_text import lines_of
 
-from .rows import finish
+from .rows import whole_case
 from .schedule import GREATEST, Row
 from .tables import Group
 from .texts import reading_case
@@ -38,15 +38,7 @@ def row_case(lines, schedule):
     yield reading_case(text, (1, 16400))
     group = Group(words)
     yield group.given, group.wanted
-    row = Row(group, tokens, cuts)
-    if row.start()[0] == 0:
-        schedule(row)
-        said = finish(row)
-        if said[0] == 0:
-            row.show_report(3 * said[1])
-    else:
-        row.parse(0)
-    yield row.case()
+    yield whole_case(Row(group, tokens, cuts), schedule)
 
 
 def cases(rng):

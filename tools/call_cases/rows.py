@@ -34,6 +34,22 @@ def finish(row, spare=0):
     return said
 
 
+def whole_case(row, schedule, show_started=False, show_finished=False):
+    """A row started, brought to its end by a schedule, and its report shown; the one-call parse where the start is refused."""
+    if row.start()[0] == 0:
+        if show_started:
+            row.show_area()
+        schedule(row)
+        if show_finished:
+            row.show_area()
+        said = finish(row)
+        if said[0] == 0:
+            row.show_report(3 * said[1])
+    else:
+        row.parse(0)
+    return row.case()
+
+
 # Schedules to the end.
 
 
@@ -72,18 +88,7 @@ def samples():
         for cuts in [[]] + [[cut] for cut in range(len(tokens) + 1)] + [[0, 0], [len(tokens)] * 2]:
             for number, schedule in enumerate(SCHEDULES):
                 row = Row(group, tokens, cuts)
-                if row.start()[0] == 0:
-                    if len(tokens) < 6:
-                        row.show_area()
-                    schedule(row)
-                    if len(tokens) < 9 and number == 0:
-                        row.show_area()
-                    said = finish(row)
-                    if said[0] == 0:
-                        row.show_report(3 * said[1])
-                else:
-                    row.parse(0)
-                yield row.case()
+                yield whole_case(row, schedule, len(tokens) < 6, len(tokens) < 9 and number == 0)
 
 
 def report_rooms():
@@ -172,6 +177,17 @@ def damaged_areas():
         yield row.case()
 
 
+def each_value(row, change, at, right, values):
+    """Every call under each other value in one place of the table, and a start; then the right value again."""
+    for value in sorted(values - {right}):
+        for number in range(4):
+            row.again()
+            change(at, value)
+            calls_on(row, number)
+        row.start()
+        change(at, right)
+
+
 def damaged_tables():
     """Bytes of the matrix and words of the grammar changed under a row in the middle: 15, or the move by the table as it now is."""
     group = Group(grammar.words_of(*K))
@@ -179,22 +195,9 @@ def damaged_tables():
     row = next(middles(group))
     row.keep()
     for at in [*range(0, 12), *range(64, 72), 128, 130, 192, 193, 325, 330, 4032, 4095]:
-        byte = group.matrix[at]
-        for value in sorted({0, 1, 2, 3, 4, 255} - {byte}):
-            for number in range(4):
-                row.again()
-                row.change_matrix(at, value)
-                calls_on(row, number)
-            row.start()
-            row.change_matrix(at, byte)
+        each_value(row, row.change_matrix, at, group.matrix[at], {0, 1, 2, 3, 4, 255})
     for at, word in enumerate(list(group.words)):
-        for value in sorted({0, 1, 5, 63, 64, 256, 258, 65535} - {word}):
-            for number in range(4):
-                row.again()
-                row.change_grammar(at, value)
-                calls_on(row, number)
-            row.start()
-            row.change_grammar(at, word)
+        each_value(row, row.change_grammar, at, word, {0, 1, 5, 63, 64, 256, 258, 65535})
     yield row.case()
 
 
