@@ -36,7 +36,7 @@ CONTRACTS = [
 ]
 PUBLIC = re.compile(r'^pub (?:extern "C" )?fn (\w+)')
 # the final statements: a file of specs, and the names in it; None for every public theorem of the file
-STATEMENTS = [("demands", "Demands", None), ("demands", "Starred", ["starred"]), ("text", "TextFed", ["text-fed", "pieces-read"])]
+STATEMENTS = [("demands", "Proved", None), ("demands", "Starred", ["starred"]), ("text", "TextFed", ["text-fed", "pieces-read"])]
 
 # definitions that compute, and the theorems that tie them to propositions: who believes the propositions need not read the definition.
 # (The stages of the checks are tied by the `-given` theorems, whose conditions hold both.)
@@ -360,26 +360,6 @@ def contract_roots(files):
     return roots, unknown, count
 
 
-def restated(files):
-    """Demand 1 says over again, in demands' PublicCalls, what the contracts of code say: do both cite the same definitions?"""
-    calls = files.get(("demands", "PublicCalls"))
-    if calls is None:
-        return None
-    said = {w for w in names_in(calls.blocks["Keeps"].lines) if w in calls.imports and calls.imports[w][0][1].split(".")[0] != "declared"}
-    cited = set()
-    for rel in CONTRACTS:
-        if not rel.startswith(("text/", "grugalash/")):
-            f = File(rel.split("/")[0], rel)
-            public = False
-            for line in open(os.path.join(CRATES, rel), encoding="utf-8").read().split("\n"):
-                if line.startswith("ghost use "):
-                    read_use(line[6:].rstrip(), f)
-                public = PUBLIC.match(line) or (public and not line.startswith(("fn ", "{")))
-                if public and line.strip().startswith("ensures"):
-                    cited |= {w for w in names_in([line]) if w in f.imports}
-    return cited - said, said - cited
-
-
 def statement_roots(files):
     roots, names = [], []
     for crate, file, wanted in STATEMENTS:
@@ -637,11 +617,6 @@ def table(files, with_names):
     opaque, outside = also_named(by_all, files)
     words = sorted({w for _, w in outside if re.match(r"^[A-Za-z]", w)})
     out.append("Names of the toolchain's libraries in these lines: " + ", ".join("`" + w + "`" for w in words) + ".")
-    both = restated(files)
-    if both is not None:
-        apart = "; ".join(", ".join(sorted(x)) for x in both if x)
-        out.append("`Keeps` of `demands/specs/PublicCalls.antt` and the contracts in code "
-                   + ("do not cite the same definitions: " + apart if apart else "cite the same definitions") + ".")
     out.append(f"All lines of specs, comments and blank lines apart: {sum(f.total for f in files.values())}.")
     if with_names:
         out.append("Opaque: " + (", ".join(sorted(opaque)) or "none") + ".")

@@ -1,13 +1,10 @@
--- Demand 1: of every public call, with any words lent to it, the one answer that its contract admits, the numbers that it may answer, and what
--- it leaves in the runs lent to it.
--- Document 01: "Each public function promises its answer and the final content of everything lent to it, for all inputs, refusals too"; "Prove that
--- the promise admits one answer only"; "All return number and value and leave lent memory unchanged, with one exception: once the one-call
+-- Demand 1: of every public call, with any words lent to it, the numbers that it may answer, and what it leaves in the runs lent to it.
+-- Document 01: "All return number and value and leave lent memory unchanged, with one exception: once the one-call
 -- parse has passed 11 for its work area, the words its formula counts are all zero when it ends, accepted or refused"; "anything beyond is untouched".
 -- Rests on PublicCalls and GivenDemand, on area's StartWords and Lengths, and OwnMatrix.
 --
--- Main definition: ParseAreaLeft. Main statements: one-answer (any promise by equations), promise-kept, one-answer-only, number-listed, lent-kept,
--- beyond-kept, parse-area-left.
-use mathlib.Core.Path.{_≡_, refl, sym, ap, _∙_}
+-- Main definition: ParseAreaLeft. Main statements: number-listed, lent-kept, beyond-kept, parse-area-left.
+use mathlib.Core.Path.{_≡_, refl, sym, subst, ap, _∙_}
 use mathlib.Core.Bool.{Bool, true, false, true≢false}
 use mathlib.Core.Logic.{_⊎_, inl, inr}
 use mathlib.Core.List.{List, [], _∷_, _++_, List·Memᴰ, List·Memᴰ·head, List·Memᴰ·tail}
@@ -23,7 +20,6 @@ use Rattle.language.specs.declared.Answer.{Answer}
 use Rattle.language.specs.declared.Answer.the-variants.{Done, Refused}
 use Rattle.language.specs.declared.RunAnswer.{RunAnswer}
 use Rattle.language.specs.declared.ReportAnswer.{ReportAnswer}
-use Rattle.language.specs.declared.ReportAnswer.the-variants as reports
 use Rattle.language.specs.Refusals.{numberOf, answerNumber, setNumber, runNumber, reportNumber}
 use Rattle.language.specs.Words.{countT, countN, grammarOf}
 use Rattle.language.specs.Stages.{Stage, checked, stagesOf, Given, fails, passes, none-left}
@@ -55,58 +51,8 @@ use Rattle.reader.specs.ParseCall.{parsedAnswer, parsedArea, parsedOut, parseOu
 use Rattle.report.specs.ReportCall.{reportOutcome, reportAnswer, reportOut}
 use Rattle.demands.specs.OwnMatrix.{own-shape}
 use Rattle.demands.specs.Reached.{stuck-number}
-use Rattle.demands.specs.PublicCalls.{PublicCall, number-of, value-of, check-symbols, check-words, load, left-set, right-set, in-shape, start, step, run, join, report, parse, entry-tokens, GivesBack, Keeps, promised, numberFor, numbersFor, LentKept, needIn, BeyondKept}
+use Rattle.demands.specs.PublicCalls.{PublicCall, number-of, value-of, check-symbols, check-words, load, left-set, right-set, in-shape, start, step, run, join, report, parse, entry-tokens, numberFor, numbersFor, needIn, wordsOf, Written, written}
 use Rattle.demands.specs.GivenDemand.{StepGiven, step-15, step-12, step-13, step-0, RunGiven, run-15, run-12, run-13, run-0, JoinGiven, join-15, join-12, join-14, join-0, ReportGiven, report-15, report-16, report-stuck, report-11, report-0, ParseGiven, parse-words, parse-row, parse-stuck, parse-11, parse-0, lentToLoad, load-given, lentToSet, lentToStart, start-given, step-broken, step-is, run-broken, run-is, join-broken, join-is, parse-begins, parse-refused, refused-by-load, refused-by-start, given-for}
-
--- ---- one answer only
-
--- whatever is promised by an equation, two that keep the promise are the same
-pub one-answer : {A : Type 0} {promise x y : A} → x ≡ promise → y ≡ promise → x ≡ y
-one-answer p q = p ∙ sym q
-
--- two lines of a contract, and three
-both : {A B : Type 0} {x y : A × B} → x .0 ≡ y .0 → x .1 ≡ y .1 → x ≡ y
-both {x = x} {y = y} p q = ap (λ a. (a, x .1)) p ∙ ap (λ b. (y .0, b)) q
-
-all-three : {A B C : Type 0} {x y : A × B × C} → x .0 ≡ y .0 → x .1 ≡ y .1 → x .2 ≡ y .2 → x ≡ y
-all-three {x = x} {y = y} p q r = ap (λ a. (a, x .1, x .2)) p ∙ ap (λ b. (y .0, b, x .2)) q ∙ ap (λ c. (y .0, y .1, c)) r
-
--- what the definitions say keeps the contract: there is an answer, whatever is lent
-pub promise-kept : (call : PublicCall) → Keeps call (promised call)
-promise-kept (number-of refusal) = refl
-promise-kept (value-of refusal) = refl
-promise-kept (check-symbols words) = refl
-promise-kept (check-words words) = refl
-promise-kept (load words bytes) = (refl, refl)
-promise-kept (left-set words k) = refl
-promise-kept (right-set words k) = refl
-promise-kept (in-shape words matrix area) = refl
-promise-kept (start words matrix tokens cuts area) = (refl, refl)
-promise-kept (step words matrix area c) = (refl, refl)
-promise-kept (run words matrix area c budget) = (refl, refl)
-promise-kept (join words matrix area c) = (refl, refl)
-promise-kept (report words matrix area out) = (refl, refl)
-promise-kept (parse words tokens area out) = (refl, refl, refl)
-promise-kept (entry-tokens entries e tokens place) = (refl, refl)
-
--- and there is no other
-pub one-answer-only : (call : PublicCall) (x y : GivesBack call) → Keeps call x → Keeps call y → x ≡ y
-one-answer-only (number-of refusal) x y p q = one-answer p q
-one-answer-only (value-of refusal) x y p q = one-answer p q
-one-answer-only (check-symbols words) x y p q = one-answer p q
-one-answer-only (check-words words) x y p q = one-answer p q
-one-answer-only (load words bytes) x y p q = both (one-answer (p .0) (q .0)) (one-answer (p .1) (q .1))
-one-answer-only (left-set words k) x y p q = one-answer p q
-one-answer-only (right-set words k) x y p q = one-answer p q
-one-answer-only (in-shape words matrix area) x y p q = one-answer p q
-one-answer-only (start words matrix tokens cuts area) x y p q = both (one-answer (p .0) (q .0)) (one-answer (p .1) (q .1))
-one-answer-only (step words matrix area c) x y p q = both (one-answer (p .0) (q .0)) (one-answer (p .1) (q .1))
-one-answer-only (run words matrix area c budget) x y p q = both (one-answer (p .0) (q .0)) (one-answer (p .1) (q .1))
-one-answer-only (join words matrix area c) x y p q = both (one-answer (p .0) (q .0)) (one-answer (p .1) (q .1))
-one-answer-only (report words matrix area out) x y p q = both (one-answer (p .0) (q .0)) (one-answer (p .1) (q .1))
-one-answer-only (parse words tokens area out) x y p q =
-    all-three (one-answer (p .0) (q .0)) (one-answer (p .1) (q .1)) (one-answer (p .2) (q .2))
-one-answer-only (entry-tokens entries e tokens place) x y p q = both (one-answer (p .0) (q .0)) (one-answer (p .1) (q .1))
 
 -- ---- the numbers
 
@@ -347,24 +293,36 @@ parsed-kept : (a : Answer) (o : Outcome) (out : List ℕ) → (reportNumber (par
 parsed-kept Done o out h = outcome-kept o out h
 parsed-kept (Refused refusal) o out h = refl
 
+-- of no run there is nothing to say, and of one run what is said of it
+no-run : {A : Type 0} {w : Written} → List·Memᴰ w [] → A
+no-run = elim [ ]
+
+one-run : (P : Written → Type 0) {v w : Written} → P v → List·Memᴰ w (v ∷ []) → P w
+one-run P p (List·Memᴰ·head e) = subst P (sym e) p
+one-run P p (List·Memᴰ·tail m) = no-run m
+
+abbrev Same : Written → Type 0
+Same w = w .after ≡ w .before
+
 -- where the number is not 0, every run that it may write is as it was
-pub lent-kept : (call : PublicCall) → (numberFor call ≡ 0 → ⊥) → LentKept call
+pub lent-kept : (call : PublicCall) → (numberFor call ≡ 0 → ⊥) → {w : Written} → List·Memᴰ w (written call) → w .after ≡ w .before
 unfolding loadBytes startArea stepAnswer stepArea runAnswer runArea joinAnswer joinArea reportAnswer reportOut parseAnswer parseOut
-lent-kept (number-of refusal) h = tt
-lent-kept (value-of refusal) h = tt
-lent-kept (check-symbols words) h = tt
-lent-kept (check-words words) h = tt
-lent-kept (load words bytes) h = load-kept (loadAnswer words (length bytes)) words bytes h
-lent-kept (left-set words k) h = tt
-lent-kept (right-set words k) h = tt
-lent-kept (in-shape words matrix area) h = tt
-lent-kept (start words matrix tokens cuts area) h = start-kept (startAnswer words matrix tokens cuts (length area)) tokens cuts area h
-lent-kept (step words matrix area c) h = called-kept (stepCall words matrix area c) area h
-lent-kept (run words matrix area c budget) h = ran-kept (runCall words matrix area c budget) area h
-lent-kept (join words matrix area c) h = called-kept (joinCall words matrix area c) area h
-lent-kept (report words matrix area out) h = outcome-kept (reportOutcome words matrix area) out h
-lent-kept (parse words tokens area out) h = parsed-kept (parseBegun words tokens (length area)) (parseOutcome words tokens) out h
-lent-kept (entry-tokens entries e tokens place) h = tt
+lent-kept (number-of refusal) h m = no-run m
+lent-kept (value-of refusal) h m = no-run m
+lent-kept (check-symbols words) h m = no-run m
+lent-kept (check-words words) h m = no-run m
+lent-kept (load words bytes) h m = one-run Same (load-kept (loadAnswer words (length bytes)) words bytes h) m
+lent-kept (left-set words k) h m = no-run m
+lent-kept (right-set words k) h m = no-run m
+lent-kept (in-shape words matrix area) h m = no-run m
+lent-kept (start words matrix tokens cuts area) h m = one-run Same (start-kept (startAnswer words matrix tokens cuts (length area)) tokens cuts area h) m
+lent-kept (step words matrix area c) h m = one-run Same (called-kept (stepCall words matrix area c) area h) m
+lent-kept (run words matrix area c budget) h m = one-run Same (ran-kept (runCall words matrix area c budget) area h) m
+lent-kept (join words matrix area c) h m = one-run Same (called-kept (joinCall words matrix area c) area h) m
+lent-kept (report words matrix area out) h m = one-run Same (outcome-kept (reportOutcome words matrix area) out h) m
+lent-kept (parse words tokens area out) h m =
+    one-run Same (parsed-kept (parseBegun words tokens (length area)) (parseOutcome words tokens) out h) m
+lent-kept (entry-tokens entries e tokens place) h m = no-run m
 
 -- ---- what stands beyond
 
@@ -448,49 +406,50 @@ module _ (words matrix area : List ℕ) (low : getD area 2 0 < 65536) where
           ap (λ x. drop (needIn area) (ranArea x area)) (run-is words matrix area c budget e)
           ∙ ran-beyond e c budget (States.run (tableOf words matrix) c budget (decode area)) refl
 
-outcome-beyond : (o : Outcome) (out : List ℕ) (entries moves : ℕ) → outcomeAnswer o (length out) ≡ reports.Report entries moves
-    → drop (3 * entries) (outcomeOut o out) ≡ drop (3 * entries) out
-outcome-beyond (refusedRow refusal) out entries moves q = refl
-outcome-beyond (reported l m) out entries moves q = go (ltb (length out) (3 * length l)) refl
+outcome-beyond : (o : Outcome) (out : List ℕ)
+    → drop (wordsOf (outcomeAnswer o (length out))) (outcomeOut o out) ≡ drop (wordsOf (outcomeAnswer o (length out))) out
+outcome-beyond (refusedRow refusal) out = refl
+outcome-beyond (reported l m) out = go (ltb (length out) (3 * length l)) refl
   where
-    same : reports.Report (length l) m ≡ reports.Report entries moves → length l ≡ entries
-    same e = cc
-
-    go : (b : Bool) → ltb (length out) (3 * length l) ≡ b → drop (3 * entries) (outcomeOut (reported l m) out) ≡ drop (3 * entries) out
-    go true e = rw (e, outcomeOut)
+    go : (b : Bool) → ltb (length out) (3 * length l) ≡ b
+        → drop (wordsOf (outcomeAnswer (reported l m) (length out))) (outcomeOut (reported l m) out) ≡ drop (wordsOf (outcomeAnswer (reported l m) (length out))) out
+    go true e = rw (e, outcomeOut, outcomeAnswer)
     go false e =
-        let answer : outcomeAnswer (reported l m) (length out) ≡ reports.Report (length l) m = rw (e, outcomeAnswer) in
-        let s : length l ≡ entries = same (sym answer ∙ q) in
         let w : List ℕ = reportWords l in
-        let is : outcomeOut (reported l m) out ≡ w ++ drop (3 * length l) out = rw (e, outcomeOut) in
         let k : drop (3 * length l) (w ++ drop (3 * length l) out) ≡ drop (3 * length l) out =
         drop-past (w ++ drop (3 * length l) out) 0 (3 * length l) w (drop (3 * length l) out) (omega (arith, length-report l)) refl in
-        rw (is, sym s) k
+        rw (e, outcomeOut, outcomeAnswer) k
 
-parsed-beyond : (a : Answer) (o : Outcome) (out : List ℕ) (entries moves : ℕ) → parsedAnswer a o (length out) ≡ reports.Report entries moves
-    → drop (3 * entries) (parsedOut a o out) ≡ drop (3 * entries) out
-parsed-beyond Done o out entries moves q = outcome-beyond o out entries moves q
-parsed-beyond (Refused refusal) o out entries moves q = refl
+parsed-beyond : (a : Answer) (o : Outcome) (out : List ℕ)
+    → drop (wordsOf (parsedAnswer a o (length out))) (parsedOut a o out) ≡ drop (wordsOf (parsedAnswer a o (length out))) out
+parsed-beyond Done o out = outcome-beyond o out
+parsed-beyond (Refused refusal) o out = refl
+
+-- whose words have 16 bits, as all lent words have; of an area this is asked of the low half of its count
+abbrev Beyond : Written → Type 0
+Beyond w = getD (w .before) 2 0 < 65536 → drop (w .counted) (w .after) ≡ drop (w .counted) (w .before)
 
 -- accepted or refused, nothing changes beyond what the call counts
-pub beyond-kept : (call : PublicCall) → BeyondKept call
+pub beyond-kept : (call : PublicCall) → {w : Written} → List·Memᴰ w (written call) → getD (w .before) 2 0 < 65536
+    → drop (w .counted) (w .after) ≡ drop (w .counted) (w .before)
 unfolding loadBytes startArea reportAnswer reportOut parseAnswer parseOut
-beyond-kept (number-of refusal) = tt
-beyond-kept (value-of refusal) = tt
-beyond-kept (check-symbols words) = tt
-beyond-kept (check-words words) = tt
-beyond-kept (load words bytes) = load-beyond (loadAnswer words (length bytes)) words bytes
-beyond-kept (left-set words k) = tt
-beyond-kept (right-set words k) = tt
-beyond-kept (in-shape words matrix area) = tt
-beyond-kept (start words matrix tokens cuts area) =
-    start-beyond words matrix tokens cuts area (startAnswer words matrix tokens cuts (length area)) refl
-beyond-kept (step words matrix area c) = λ low. step-beyond words matrix area low c
-beyond-kept (run words matrix area c budget) = λ low. run-beyond words matrix area low c budget
-beyond-kept (join words matrix area c) = λ low. join-beyond words matrix area low c
-beyond-kept (report words matrix area out) = outcome-beyond (reportOutcome words matrix area) out
-beyond-kept (parse words tokens area out) = parsed-beyond (parseBegun words tokens (length area)) (parseOutcome words tokens) out
-beyond-kept (entry-tokens entries e tokens place) = tt
+beyond-kept (number-of refusal) m = no-run m
+beyond-kept (value-of refusal) m = no-run m
+beyond-kept (check-symbols words) m = no-run m
+beyond-kept (check-words words) m = no-run m
+beyond-kept (load words bytes) m = one-run Beyond (λ low. load-beyond (loadAnswer words (length bytes)) words bytes) m
+beyond-kept (left-set words k) m = no-run m
+beyond-kept (right-set words k) m = no-run m
+beyond-kept (in-shape words matrix area) m = no-run m
+beyond-kept (start words matrix tokens cuts area) m =
+    one-run Beyond (λ low. start-beyond words matrix tokens cuts area (startAnswer words matrix tokens cuts (length area)) refl) m
+beyond-kept (step words matrix area c) m = one-run Beyond (λ low. step-beyond words matrix area low c) m
+beyond-kept (run words matrix area c budget) m = one-run Beyond (λ low. run-beyond words matrix area low c budget) m
+beyond-kept (join words matrix area c) m = one-run Beyond (λ low. join-beyond words matrix area low c) m
+beyond-kept (report words matrix area out) m = one-run Beyond (λ low. outcome-beyond (reportOutcome words matrix area) out) m
+beyond-kept (parse words tokens area out) m =
+    one-run Beyond (λ low. parsed-beyond (parseBegun words tokens (length area)) (parseOutcome words tokens) out) m
+beyond-kept (entry-tokens entries e tokens place) m = no-run m
 
 -- ---- the one-call parse's work area
 

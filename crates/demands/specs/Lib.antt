@@ -1,5 +1,6 @@
 pub mod AnswersDemand
 pub mod Calls
+pub mod Contracts
 pub mod Demands
 pub mod Finishing
 pub mod GivenDemand
@@ -7,6 +8,7 @@ pub mod MoveDemand
 pub mod OnWords
 pub mod OwnMatrix
 pub mod ParseDemand
+pub mod Proved
 pub mod PublicCalls
 pub mod Reached
 pub mod SameReport

@@ -5,18 +5,17 @@
 -- A run that a call only reads is lent as shared, so that no program can write to it; of the others the contract gives every word.
 -- Rests on the definitions that the contracts cite, and on nothing else.
 --
--- Main definitions: PublicCall; GivesBack, Keeps (the contract), promised; numberFor, numbersFor; LentKept, BeyondKept.
-use mathlib.Core.Path.{_≡_}
+-- Main definitions: PublicCall; GivesBack, promised (that the contracts say just this: Contracts); numberFor, numbersFor; Written, written.
 use mathlib.Core.Bool.{Bool}
 use mathlib.Core.List.{List, [], _∷_}
-use Prim.Native.Nat.{ℕ, _+_, _*_, _<_}
-use lib.ListN.{length, getD, drop}
+use Prim.Native.Nat.{ℕ, _+_, _*_}
+use lib.ListN.{length, getD}
 use Rattle.language.specs.declared.Refusal.{Refusal}
 use Rattle.language.specs.declared.Answer.{Answer}
 use Rattle.language.specs.declared.SetAnswer.{SetAnswer}
 use Rattle.language.specs.declared.RunAnswer.{RunAnswer}
 use Rattle.language.specs.declared.ReportAnswer.{ReportAnswer}
-use Rattle.language.specs.declared.ReportAnswer.the-variants.{Report}
+use Rattle.language.specs.declared.ReportAnswer.the-variants.{Report, Refused}
 use Rattle.language.specs.Refusals.{numberOf, valueOf, answerNumber, setNumber, runNumber, reportNumber}
 use Rattle.language.specs.Checks.{checkSymbols, checkWords}
 use Rattle.language.specs.Loads.{loadAnswer, loadBytes, leftSetAnswer, rightSetAnswer}
@@ -63,25 +62,7 @@ GivesBack (report words matrix area out) = ReportAnswer × List ℕ
 GivesBack (parse words tokens area out) = ReportAnswer × List ℕ × List ℕ
 GivesBack (entry-tokens entries e tokens place) = List ℕ × (ℕ × ℕ)
 
--- the contract: each line of it an equation
-abbrev pub Keeps : (call : PublicCall) → GivesBack call → Type 0
-Keeps (number-of refusal) r = r ≡ numberOf refusal
-Keeps (value-of refusal) r = r ≡ valueOf refusal
-Keeps (check-symbols words) r = r ≡ checkSymbols words
-Keeps (check-words words) r = r ≡ checkWords words
-Keeps (load words bytes) r = (r .0 ≡ loadAnswer words (length bytes)) × (r .1 ≡ loadBytes words bytes)
-Keeps (left-set words k) r = r ≡ leftSetAnswer words k
-Keeps (right-set words k) r = r ≡ rightSetAnswer words k
-Keeps (in-shape words matrix area) r = r ≡ inShape words matrix area
-Keeps (start words matrix tokens cuts area) r = (r .0 ≡ startAnswer words matrix tokens cuts (length area)) × (r .1 ≡ startArea words matrix tokens cuts area)
-Keeps (step words matrix area c) r = (r .0 ≡ stepAnswer words matrix area c) × (r .1 ≡ stepArea words matrix area c)
-Keeps (run words matrix area c budget) r = (r .0 ≡ runAnswer words matrix area c budget) × (r .1 ≡ runArea words matrix area c budget)
-Keeps (join words matrix area c) r = (r .0 ≡ joinAnswer words matrix area c) × (r .1 ≡ joinArea words matrix area c)
-Keeps (report words matrix area out) r = (r .0 ≡ reportAnswer words matrix area (length out)) × (r .1 ≡ reportOut words matrix area out)
-Keeps (parse words tokens area out) r =
-    (r .0 ≡ parseAnswer words tokens (length area) (length out)) × (r .1 ≡ parseArea words tokens area) × (r .2 ≡ parseOut words tokens (length area) out)
-Keeps (entry-tokens entries e tokens place) r = (r .0 ≡ entryTokens entries e tokens) × (r .1 ≡ wordAddress place (entryStart entries e (length tokens)))
-
+-- what the contract promises, for any words lent
 abbrev pub promised : (call : PublicCall) → GivesBack call
 promised (number-of refusal) = numberOf refusal
 promised (value-of refusal) = valueOf refusal
@@ -136,47 +117,38 @@ numbersFor (report words matrix area out) = 15 ∷ 16 ∷ 17 ∷ 18 ∷ 19 ∷ 2
 numbersFor (parse words tokens area out) = 1 ∷ 2 ∷ 3 ∷ 4 ∷ 5 ∷ 6 ∷ 7 ∷ 8 ∷ 9 ∷ 11 ∷ 17 ∷ 18 ∷ 19 ∷ 20 ∷ 11 ∷ []
 numbersFor (entry-tokens entries e tokens place) = []
 
--- the runs that it may write hold what they held; the one-call parse's work area is spoken of apart
-abbrev pub LentKept : PublicCall → Type 0
-LentKept (number-of refusal) = Unit {0}
-LentKept (value-of refusal) = Unit {0}
-LentKept (check-symbols words) = Unit {0}
-LentKept (check-words words) = Unit {0}
-LentKept (load words bytes) = loadBytes words bytes ≡ bytes
-LentKept (left-set words k) = Unit {0}
-LentKept (right-set words k) = Unit {0}
-LentKept (in-shape words matrix area) = Unit {0}
-LentKept (start words matrix tokens cuts area) = startArea words matrix tokens cuts area ≡ area
-LentKept (step words matrix area c) = stepArea words matrix area c ≡ area
-LentKept (run words matrix area c budget) = runArea words matrix area c budget ≡ area
-LentKept (join words matrix area c) = joinArea words matrix area c ≡ area
-LentKept (report words matrix area out) = reportOut words matrix area out ≡ out
-LentKept (parse words tokens area out) = parseOut words tokens (length area) out ≡ out
-LentKept (entry-tokens entries e tokens place) = Unit {0}
-
 -- how many words an area tells that it needs
 abbrev pub needIn : List ℕ → ℕ
 needIn area = need (getD area 0 0) (getD area 1 0)
 
--- accepted or refused, nothing changes beyond the words or bytes that the call counts; a lent area's words have 16 bits
-abbrev pub BeyondKept : PublicCall → Type 0
-BeyondKept (number-of refusal) = Unit {0}
-BeyondKept (value-of refusal) = Unit {0}
-BeyondKept (check-symbols words) = Unit {0}
-BeyondKept (check-words words) = Unit {0}
-BeyondKept (load words bytes) = drop 4096 (loadBytes words bytes) ≡ drop 4096 bytes
-BeyondKept (left-set words k) = Unit {0}
-BeyondKept (right-set words k) = Unit {0}
-BeyondKept (in-shape words matrix area) = Unit {0}
-BeyondKept (start words matrix tokens cuts area) =
-    drop (need (length tokens) (length cuts + 1)) (startArea words matrix tokens cuts area) ≡ drop (need (length tokens) (length cuts + 1)) area
-BeyondKept (step words matrix area c) = getD area 2 0 < 65536 → drop (needIn area) (stepArea words matrix area c) ≡ drop (needIn area) area
-BeyondKept (run words matrix area c budget) = getD area 2 0 < 65536 → drop (needIn area) (runArea words matrix area c budget) ≡ drop (needIn area) area
-BeyondKept (join words matrix area c) = getD area 2 0 < 65536 → drop (needIn area) (joinArea words matrix area c) ≡ drop (needIn area) area
-BeyondKept (report words matrix area out) =
-    (entries moves : ℕ) → reportAnswer words matrix area (length out) ≡ Report entries moves
-    → drop (3 * entries) (reportOut words matrix area out) ≡ drop (3 * entries) out
-BeyondKept (parse words tokens area out) =
-    (entries moves : ℕ) → parseAnswer words tokens (length area) (length out) ≡ Report entries moves
-    → drop (3 * entries) (parseOut words tokens (length area) out) ≡ drop (3 * entries) out
-BeyondKept (entry-tokens entries e tokens place) = Unit {0}
+-- how many words of a report run are written: three an entry, none on a refusal
+abbrev pub wordsOf : ReportAnswer → ℕ
+wordsOf (Report entries moves) = 3 * entries
+wordsOf (Refused refusal) = 0
+
+-- a run that a call may write: what it held, what it holds when the call ends, and how many words or bytes at its front the call counts
+pub record Written : Type 0 where
+  pub before : List ℕ
+  pub after : List ℕ
+  pub counted : ℕ
+
+-- every such run; the one-call parse's work area is spoken of apart
+abbrev pub written : PublicCall → List Written
+written (number-of refusal) = []
+written (value-of refusal) = []
+written (check-symbols words) = []
+written (check-words words) = []
+written (load words bytes) = record { before = bytes; after = loadBytes words bytes; counted = 4096 } ∷ []
+written (left-set words k) = []
+written (right-set words k) = []
+written (in-shape words matrix area) = []
+written (start words matrix tokens cuts area) =
+    record { before = area; after = startArea words matrix tokens cuts area; counted = need (length tokens) (length cuts + 1) } ∷ []
+written (step words matrix area c) = record { before = area; after = stepArea words matrix area c; counted = needIn area } ∷ []
+written (run words matrix area c budget) = record { before = area; after = runArea words matrix area c budget; counted = needIn area } ∷ []
+written (join words matrix area c) = record { before = area; after = joinArea words matrix area c; counted = needIn area } ∷ []
+written (report words matrix area out) =
+    record { before = out; after = reportOut words matrix area out; counted = wordsOf (reportAnswer words matrix area (length out)) } ∷ []
+written (parse words tokens area out) =
+    record { before = out; after = parseOut words tokens (length area) out; counted = wordsOf (parseAnswer words tokens (length area) (length out)) } ∷ []
+written (entry-tokens entries e tokens place) = []
