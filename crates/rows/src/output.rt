@@ -8,8 +8,9 @@ ghost use lib.ListN.{length};
 ghost use Rattle.rows.specs.Schedule.{Fits};
 
 // `text L`.
-pub(crate) fn write_text(out: &mut [u8], line: u32) {
-    let end = writing::put_text(out, 0, line);
+pub(crate) fn write_text(line: u32) {
+    let mut out = [0u8; 16];
+    let end = writing::put_text(&mut out, 0, line);
     io::write_all(STDOUT_FILENO, &out[..end]);
 }
 

@@ -1,5 +1,6 @@
 // The input: a stream of 16-bit words, low byte first, and runs of words given by patterns.
 ghost use Prim.Native.Nat.{_<_, _≤_};
+ghost use lib.ListN.{length};
 
 // A byte as a wider number.
 pub fn wide_byte(byte: u8) -> u64
@@ -34,34 +35,24 @@ pub fn next_wide() -> u32 {
     low + 65536 * high
 }
 
-// The word at a place of a piece: the next of the input where the pattern is not whole, else the one a pattern before.
-fn piece_word(run: &[u16], place: usize, back: usize, fresh: bool) -> u16 {
-    if fresh {
-        return next_value();
-    }
-    if place < back {
-        return 0;
-    }
-    if run.len() <= place - back {
-        return 0;
-    }
-    run[place - back]
-}
-
 // Reads a piece of a run from place `at` on, and answers where it ends: how long it is, how long its pattern is, and the pattern,
 // which is repeated to the piece's end. A piece that the run has no room for is left out.
-fn read_piece(run: &mut [u16], at: usize) -> usize {
+fn read_piece(run: &mut [u16], at: usize) -> usize
+    requires { ⌜ at ≤ length (now run) ⌝ }
+    ensures { λ r. ⌜ r ≤ length (now (run .entry)) ⌝ }
+{
     let size = next_word() as usize;
     let back = next_word() as usize;
-    if run.len() < at {
-        return 0;
-    }
     if run.len() - at < size {
         return at;
     }
     let mut i = 0;
     while i < size {
-        let word = piece_word(run, at + i, back, i < back);
+        let word = if i < back {
+            next_value()
+        } else {
+            run[at + i - back]
+        };
         run[at + i] = word;
         i += 1;
     }
@@ -69,7 +60,9 @@ fn read_piece(run: &mut [u16], at: usize) -> usize {
 }
 
 // Reads a run, the number of its pieces and then those, and answers its length.
-pub fn read_run(run: &mut [u16]) -> usize {
+pub fn read_run(run: &mut [u16]) -> usize
+    ensures { λ r. ⌜ r ≤ length (now (run .entry)) ⌝ }
+{
     let mut left = next_word();
     let mut at = 0;
     while 0 < left {
@@ -79,15 +72,7 @@ pub fn read_run(run: &mut [u16]) -> usize {
     at
 }
 
-// A run of one byte all over, and of one word.
-pub fn fill_bytes(run: &mut [u8], byte: u8) {
-    let mut i = 0;
-    while i < run.len() {
-        run[i] = byte;
-        i += 1;
-    }
-}
-
+// A run of one word all over.
 pub fn fill_words(run: &mut [u16], word: u16) {
     let mut i = 0;
     while i < run.len() {
@@ -120,17 +105,16 @@ pub fn copy_bytes(from: &[u16], to: &mut [u8]) {
     }
 }
 
-// Puts a word, or a byte, at a place of a run, if it has that place.
+// Puts a word at a place of a run, if it has that place.
 pub fn change_word(run: &mut [u16], at: usize, word: u16) {
-    if run.len() <= at {
-        return;
+    if at < run.len() {
+        run[at] = word;
     }
-    run[at] = word;
 }
 
-pub fn change_byte(run: &mut [u8], at: usize, word: u16) {
-    if run.len() <= at {
-        return;
+// The same for a byte of a matrix.
+pub fn change_byte(matrix: &mut [u8; 4096], at: usize, word: u16) {
+    if at < 4096 {
+        matrix[at] = (word % 256) as u8;
     }
-    run[at] = (word % 256) as u8;
 }

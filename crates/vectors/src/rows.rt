@@ -8,6 +8,7 @@
 use crate::input;
 use crate::shown;
 use crate::shown::Told;
+use language::Answer;
 
 // A run's budget; 65,535 stands for the greatest.
 fn next_budget() -> u32 {
@@ -16,18 +17,6 @@ fn next_budget() -> u32 {
         return word;
     }
     4294967295
-}
-
-// A call that makes one move or some.
-fn moving_call(call: u32, chunk: usize, words: &[u16], matrix: &[u8], area: &mut [u16]) -> Told {
-    if call == 2 {
-        return shown::told_answer(reader::step(words, matrix, area, chunk));
-    }
-    if call == 3 {
-        let budget = next_budget();
-        return shown::told_run(reader::run(words, matrix, area, chunk, budget));
-    }
-    shown::told_answer(reader::join(words, matrix, area, chunk))
 }
 
 // Each chunk is run until it rests.
@@ -62,38 +51,36 @@ fn area_call(
     if call == 1 {
         return shown::told_answer(area::start(words, matrix, tokens, cuts, area));
     }
-    if call == 5 {
-        run_all(words, matrix, area, chunk);
-        join_all(words, matrix, area, chunk);
-        return shown::nothing();
+    if call == 2 {
+        return shown::told_answer(reader::step(words, matrix, area, chunk));
     }
-    moving_call(call, chunk, words, matrix, area)
+    if call == 3 {
+        return shown::told_run(reader::run(words, matrix, area, chunk, next_budget()));
+    }
+    if call == 4 {
+        return shown::told_answer(reader::join(words, matrix, area, chunk));
+    }
+    run_all(words, matrix, area, chunk);
+    join_all(words, matrix, area, chunk);
+    shown::told_answer(Answer::Done)
 }
 
-// The report into a run of nines, and the run's sum.
+// The report, or the one-call parse, into a run of nines; with it the sum of the run, for the parse of area and run.
 fn report_call(
     before: u64,
+    call: u32,
     words: &[u16],
     matrix: &[u8],
-    area: &[u16],
-    out: &mut [u16],
-    aloud: bool,
-) -> u64 {
-    input::fill_words(out, 9);
-    let it = shown::told_report(report::report(words, matrix, area, out));
-    shown::tell(before, it, shown::sum_of_words(out), aloud)
-}
-
-// The one-call parse, with a report's run of nines, and the sums of area and run.
-fn parse_call(
-    before: u64,
-    words: &[u16],
     tokens: &[u16],
     area: &mut [u16],
     out: &mut [u16],
     aloud: bool,
 ) -> u64 {
     input::fill_words(out, 9);
+    if call == 6 {
+        let it = shown::told_report(report::report(words, matrix, area, out));
+        return shown::tell(before, it, shown::sum_of_words(out), aloud);
+    }
     let it = shown::told_report(reader::parse(words, tokens, area, out));
     let sum = shown::folded(shown::sum_of_words(area), shown::sum_of_words(out));
     shown::tell(before, it, sum, aloud)
@@ -114,33 +101,38 @@ fn out_call(
     if out.len() < room {
         return before;
     }
-    if call == 6 {
-        return report_call(before, words, matrix, area, &mut out[..room], aloud);
-    }
-    parse_call(before, words, tokens, area, &mut out[..room], aloud)
+    report_call(
+        before,
+        call,
+        words,
+        matrix,
+        tokens,
+        area,
+        &mut out[..room],
+        aloud,
+    )
 }
 
-// The area kept, put back, or one thing changed.
-fn change(call: u32, words: &mut [u16], matrix: &mut [u8], area: &mut [u16], kept: &mut [u16]) {
+// The area kept, or put back.
+fn keep(call: u32, area: &mut [u16], kept: &mut [u16; 115100]) {
     if call == 8 {
         input::copy_words(area, kept);
-        return;
-    }
-    if call == 9 {
+    } else {
         input::copy_words(kept, area);
-        return;
     }
+}
+
+// One word or byte changed.
+fn change(call: u32, words: &mut [u16], matrix: &mut [u8; 4096], area: &mut [u16]) {
     let at = input::next_word() as usize;
     let value = input::next_value();
     if call == 10 {
         input::change_word(area, at, value);
-        return;
-    }
-    if call == 11 {
+    } else if call == 11 {
         input::change_byte(matrix, at, value);
-        return;
+    } else {
+        input::change_word(words, at, value);
     }
-    input::change_word(words, at, value);
 }
 
 // The words of the area, or the first ones of the report's run.
@@ -150,23 +142,21 @@ fn show_row(call: u32, area: &[u16], out: &[u16]) {
         return;
     }
     let count = input::next_word() as usize;
-    if out.len() < count {
-        return;
+    if count <= out.len() {
+        shown::show_words(&out[..count]);
     }
-    shown::show_words(&out[..count]);
 }
 
-// One call of a schedule, and the sum of all the answers so far.
+// One of the calls 1 to 7, and the sum of all the answers so far.
 fn one_call(
     before: u64,
     call: u32,
     chunk: usize,
-    words: &mut [u16],
-    matrix: &mut [u8],
+    words: &[u16],
+    matrix: &[u8],
     tokens: &[u16],
     cuts: &[u16],
     area: &mut [u16],
-    kept: &mut [u16],
     out: &mut [u16],
     aloud: bool,
 ) -> u64 {
@@ -174,25 +164,17 @@ fn one_call(
         let it = area_call(call, chunk, words, matrix, tokens, cuts, area);
         return shown::tell(before, it, shown::sum_of_words(area), aloud);
     }
-    if call < 8 {
-        return out_call(before, call, words, matrix, tokens, area, out, aloud);
-    }
-    if call < 13 {
-        change(call, words, matrix, area, kept);
-        return before;
-    }
-    show_row(call, area, out);
-    before
+    out_call(before, call, words, matrix, tokens, area, out, aloud)
 }
 
 // A schedule to its end, and the sum of all its answers.
 fn schedule(
     words: &mut [u16],
-    matrix: &mut [u8],
+    matrix: &mut [u8; 4096],
     tokens: &[u16],
     cuts: &[u16],
     area: &mut [u16],
-    kept: &mut [u16],
+    kept: &mut [u16; 115100],
     out: &mut [u16],
     aloud: bool,
 ) -> u64 {
@@ -204,102 +186,75 @@ fn schedule(
         if call == 0 {
             return sum;
         }
-        let chunk = (word / 16) as usize;
-        sum = one_call(
-            sum,
-            call,
-            chunk,
-            words,
-            matrix,
-            tokens,
-            cuts,
-            area,
-            kept,
-            out,
-            aloud,
-        );
         left -= 1;
+        if call < 8 {
+            let chunk = (word / 16) as usize;
+            sum = one_call(
+                sum,
+                call,
+                chunk,
+                words,
+                matrix,
+                tokens,
+                cuts,
+                area,
+                out,
+                aloud,
+            );
+        } else if call < 10 {
+            keep(call, area, kept);
+        } else if call < 13 {
+            change(call, words, matrix, area);
+        } else {
+            show_row(call, area, out);
+        }
     }
     sum
 }
 
-// A row in an area of nines, and the sum of its schedule.
-fn row_with(
-    words: &mut [u16],
-    matrix: &mut [u8],
-    tokens: &[u16],
-    cuts: &[u16],
-    area: &mut [u16],
-    kept: &mut [u16],
-    out: &mut [u16],
-    aloud: bool,
-) {
-    input::fill_words(area, 9);
-    let sum = schedule(words, matrix, tokens, cuts, area, kept, out, aloud);
-    shown::show(sum);
-    shown::line_end();
-}
-
-// Kinds 4 and 5: tokens, cuts, how many words the area has, and a schedule, whose answers kind 4 shows one by one.
-pub fn row_case(
-    kind: u32,
-    words: &mut [u16],
-    matrix: &mut [u8],
-    tokens: &mut [u16],
-    cuts: &mut [u16],
-    area: &mut [u16],
-    kept: &mut [u16],
-    out: &mut [u16],
-) {
-    let n = input::read_run(tokens);
-    let chunks = input::read_run(cuts);
+// Kinds 4 and 5: tokens, cuts, how many words the area has, and a schedule, whose answers kind 4 shows one by one. The area's words
+// are nines at first.
+pub fn row_case(aloud: bool, words: &mut [u16], matrix: &mut [u8; 4096]) {
+    let mut tokens = [0u16; 16400];
+    let mut cuts = [0u16; 80];
+    let mut area = [9u16; 115100];
+    let mut kept = [0u16; 115100];
+    let mut out = [0u16; 49200];
+    let n = input::read_run(&mut tokens);
+    let chunks = input::read_run(&mut cuts);
     let room = input::next_wide() as usize;
-    if tokens.len() < n {
+    if 115100 < room {
         return;
     }
-    if cuts.len() < chunks {
-        return;
-    }
-    if area.len() < room {
-        return;
-    }
-    row_with(
+    shown::show(schedule(
         words,
         matrix,
         &tokens[..n],
         &cuts[..chunks],
         &mut area[..room],
-        kept,
-        out,
-        kind == 4,
-    );
+        &mut kept,
+        &mut out,
+        aloud,
+    ));
+    shown::line_end();
 }
 
-// The tokens of one report entry: how many, and which.
-fn show_entry(report: &[u16], entry: usize, tokens: &[u16]) {
-    let part = report::entry_tokens(report, entry, tokens);
-    shown::show(part.len() as u64);
-    shown::show_words(part);
-}
-
-// The tokens of so many entries of a report's run.
+// The tokens of so many entries of a report's run: how many, and which.
 fn show_entries(report: &[u16], tokens: &[u16]) {
     let mut left = input::next_word();
     while 0 < left {
-        show_entry(report, input::next_wide() as usize, tokens);
+        let part = report::entry_tokens(report, input::next_wide() as usize, tokens);
+        shown::show(part.len() as u64);
+        shown::show_words(part);
         left -= 1;
     }
 }
 
 // Kind 7: tokens, a report's run, and the entries whose tokens are asked.
-pub fn entries_case(tokens: &mut [u16], out: &mut [u16]) {
-    let n = input::read_run(tokens);
-    let size = input::read_run(out);
-    if tokens.len() < n {
-        return;
-    }
-    if out.len() < size {
-        return;
-    }
-    show_entries(&out[..size], &tokens[..n]);
+pub fn entries_case() {
+    let mut tokens = [0u16; 16400];
+    let mut report = [0u16; 49200];
+    let n = input::read_run(&mut tokens);
+    let size = input::read_run(&mut report);
+    show_entries(&report[..size], &tokens[..n]);
 }

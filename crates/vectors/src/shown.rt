@@ -8,15 +8,12 @@ use language::SetAnswer;
 use libc::STDOUT_FILENO;
 ghost use Prim.Native.Nat.{_<_};
 
-// What a call answered: number and value of a refusal; or 0, what it counted, and for a report the moves since start.
+// What a call answered: number and value of a refusal; or 0, what it counted or the mask of a set, and for a report the moves since
+// start, for a set its size.
 pub struct Told {
     pub number: u32,
-    pub value: u32,
-    pub moves: u32,
-}
-
-fn space() {
-    io::write_all(STDOUT_FILENO, b" ");
+    pub value: u64,
+    pub more: u32,
 }
 
 pub fn line_end() {
@@ -25,29 +22,24 @@ pub fn line_end() {
 
 pub fn show(n: u64) {
     io::print_decimal(STDOUT_FILENO, n);
-    space();
+    io::write_all(STDOUT_FILENO, b" ");
 }
 
 fn refused(refusal: Refusal) -> Told {
     Told {
         number: language::number(refusal),
-        value: language::value(refusal),
-        moves: 0,
-    }
-}
-
-// Nothing was asked for that could be called.
-pub fn nothing() -> Told {
-    Told {
-        number: 0,
-        value: 0,
-        moves: 0,
+        value: language::value(refusal) as u64,
+        more: 0,
     }
 }
 
 pub fn told_answer(answer: Answer) -> Told {
     match answer {
-        Answer::Done => nothing(),
+        Answer::Done => Told {
+            number: 0,
+            value: 0,
+            more: 0,
+        },
         Answer::Refused(refusal) => refused(refusal),
     }
 }
@@ -56,8 +48,8 @@ pub fn told_run(answer: RunAnswer) -> Told {
     match answer {
         RunAnswer::Moves(made) => Told {
             number: 0,
-            value: made,
-            moves: 0,
+            value: made as u64,
+            more: 0,
         },
         RunAnswer::Refused(refusal) => refused(refusal),
     }
@@ -67,8 +59,8 @@ pub fn told_report(answer: ReportAnswer) -> Told {
     match answer {
         ReportAnswer::Report(entries, moves) => Told {
             number: 0,
-            value: entries,
-            moves: moves,
+            value: entries as u64,
+            more: moves,
         },
         ReportAnswer::Refused(refusal) => refused(refusal),
     }
@@ -78,23 +70,27 @@ pub fn told_report(answer: ReportAnswer) -> Told {
 pub fn show_answer(answer: Answer) {
     let it = told_answer(answer);
     show(it.number as u64);
-    show(it.value as u64);
+    show(it.value);
 }
 
-// Number, value and size of a set's answer.
+// All that a call answered.
+fn show_told(it: Told) {
+    show(it.number as u64);
+    show(it.value);
+    show(it.more as u64);
+}
+
+// A set's answer, on a line of its own.
 pub fn show_set(answer: SetAnswer) {
     match answer {
-        SetAnswer::Terminals(mask, size) => {
-            show(0);
-            show(mask);
-            show(size as u64);
-        }
-        SetAnswer::Refused(refusal) => {
-            show(language::number(refusal) as u64);
-            show(language::value(refusal) as u64);
-            show(0);
-        }
+        SetAnswer::Terminals(mask, size) => show_told(Told {
+            number: 0,
+            value: mask,
+            more: size,
+        }),
+        SetAnswer::Refused(refusal) => show_told(refused(refusal)),
     }
+    line_end();
 }
 
 // A sum that tells numbers at their places apart, with one more number.
@@ -150,22 +146,15 @@ pub fn show_words(words: &[u16]) {
     line_end();
 }
 
-// An answer and a sum of what was lent, on a line of their own where that is asked.
-fn show_told(it: Told, sum: u64) {
-    show(it.number as u64);
-    show(it.value as u64);
-    show(it.moves as u64);
-    show(sum);
-    line_end();
-}
-
-// An answer and a sum of what was lent, as one more of the sums before.
+// An answer and a sum of what was lent, as one more of the sums before; on a line of their own where that is asked.
 pub fn tell(before: u64, it: Told, sum: u64, aloud: bool) -> u64 {
     if aloud {
-        show_told(it, sum);
+        show_told(it);
+        show(sum);
+        line_end();
     }
     let a = folded(before, it.number as u64);
-    let b = folded(a, it.value as u64);
-    let c = folded(b, it.moves as u64);
+    let b = folded(a, it.value);
+    let c = folded(b, it.more as u64);
     folded(c, sum)
 }

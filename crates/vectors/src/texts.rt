@@ -6,32 +6,16 @@ use text::reading;
 use text::reading::State;
 use text::reading::TextAnswer;
 use text::writing;
+ghost use Prim.Native.Nat.{_<_, _≤_};
 
-// Three buffers' first numbers, each as their sum.
-fn show_lines(words: &[u16], tokens: &[u16], cuts: &[u16]) {
-    shown::show(shown::sum_of_words(words));
-    shown::show(shown::sum_of_words(tokens));
-    shown::show(shown::sum_of_words(cuts));
+// The sum of a buffer's first numbers.
+fn show_first(numbers: &[u16], count: usize) {
+    if count <= numbers.len() {
+        shown::show(shown::sum_of_words(&numbers[..count]));
+    }
 }
 
-// How many numbers each line has, and their sums.
-fn show_numbers(n: usize, m: usize, c: usize, words: &[u16], tokens: &[u16], cuts: &[u16]) {
-    shown::show(n as u64);
-    shown::show(m as u64);
-    shown::show(c as u64);
-    if words.len() < n {
-        return;
-    }
-    if tokens.len() < m {
-        return;
-    }
-    if cuts.len() < c {
-        return;
-    }
-    show_lines(&words[..n], &tokens[..m], &cuts[..c]);
-}
-
-// What a text says: 0 and the first bad line, or what the three lines hold.
+// What a text says: 0 and the first bad line, or how many numbers each of the three lines has, and their sums.
 fn show_text(answer: TextAnswer, words: &[u16; 2564], tokens: &[u16; 1024], cuts: &[u16; 64]) {
     match answer {
         TextAnswer::More => shown::show(4),
@@ -39,28 +23,31 @@ fn show_text(answer: TextAnswer, words: &[u16; 2564], tokens: &[u16; 1024], cuts
             shown::show(0);
             shown::show(line as u64);
         }
-        TextAnswer::Lines(n, m, c) => show_numbers(n, m, c, words, tokens, cuts),
+        TextAnswer::Lines(n, m, c) => {
+            shown::show(n as u64);
+            shown::show(m as u64);
+            shown::show(c as u64);
+            show_first(words, n);
+            show_first(tokens, m);
+            show_first(cuts, c);
+        }
     }
     shown::line_end();
 }
 
-// The next piece: so many bytes from place `at` on, or those that are left.
-fn feed_from(
-    state: State,
-    bytes: &[u8],
-    at: usize,
-    size: usize,
-    words: &mut [u16; 2564],
-    tokens: &mut [u16; 1024],
-    cuts: &mut [u16; 64],
-) -> State {
-    if bytes.len() <= at {
-        return state;
+// Where a piece of a text ends that starts at place `at`; the last one may be shorter, and one of no bytes is the whole rest.
+fn piece_end(at: usize, size: usize, end: usize) -> usize
+    requires { ⌜ at < end ⌝ }
+    ensures { λ r. ⌜ at < r ⌝ }
+    ensures { λ r. ⌜ r ≤ end ⌝ }
+{
+    if size == 0 {
+        return end;
     }
-    if bytes.len() - at <= size {
-        return reading::feed_piece(state, &bytes[at..], words, tokens, cuts);
+    if end - at < size {
+        return end;
     }
-    reading::feed_piece(state, &bytes[at..at + size], words, tokens, cuts)
+    at + size
 }
 
 // A text in pieces of one size.
@@ -72,50 +59,40 @@ fn feed_all(
     cuts: &mut [u16; 64],
 ) -> State {
     let mut state = reading::start();
-    if size == 0 {
-        return state;
-    }
     let mut at = 0;
     while at < bytes.len() {
-        state = feed_from(state, bytes, at, size, words, tokens, cuts);
-        if bytes.len() - at <= size {
-            return state;
-        }
-        at += size;
+        let end = piece_end(at, size, bytes.len());
+        state = reading::feed_piece(state, &bytes[at..end], words, tokens, cuts);
+        at = end;
     }
     state
 }
 
+// A text in pieces of one size, and what it says.
+fn read_pieces(bytes: &[u8], size: usize) {
+    let mut words = [0u16; 2564];
+    let mut tokens = [0u16; 1024];
+    let mut cuts = [0u16; 64];
+    let state = feed_all(bytes, size, &mut words, &mut tokens, &mut cuts);
+    show_text(reading::finish(state), &words, &tokens, &cuts);
+}
+
 // A text in pieces of each size that is given.
-fn read_pieces(
-    bytes: &[u8],
-    words: &mut [u16; 2564],
-    tokens: &mut [u16; 1024],
-    cuts: &mut [u16; 64],
-) {
+fn read_each(bytes: &[u8]) {
     let mut left = input::next_word();
     while 0 < left {
-        let size = input::next_word() as usize;
-        let state = feed_all(bytes, size, words, tokens, cuts);
-        show_text(reading::finish(state), words, tokens, cuts);
+        read_pieces(bytes, input::next_word() as usize);
         left -= 1;
     }
 }
 
 // Kind 8: a text, byte by byte, and the sizes of the pieces that it is read in.
-pub fn reading_case(
-    run: &mut [u16],
-    bytes: &mut [u8],
-    words: &mut [u16; 2564],
-    tokens: &mut [u16; 1024],
-    cuts: &mut [u16; 64],
-) {
-    let n = input::read_run(run);
-    if bytes.len() < n {
-        return;
-    }
-    input::copy_bytes(run, bytes);
-    read_pieces(&bytes[..n], words, tokens, cuts);
+pub fn reading_case() {
+    let mut run = [0u16; 16400];
+    let mut bytes = [0u8; 16400];
+    let n = input::read_run(&mut run);
+    input::copy_bytes(&run, &mut bytes);
+    read_each(&bytes[..n]);
 }
 
 // A line of the answer with its numbers: 0 parse, 1 entry, 2 refused, 3 text; where it ends.
@@ -135,14 +112,12 @@ fn put(line: u32, bytes: &mut [u8], at: usize) -> usize {
     writing::put_text(bytes, at, a)
 }
 
-// Lines of the answer, from a place of a run of `#` on: where each ends, and the run.
+// Lines of the answer, from a place of a run of bytes on: where each ends, and the run.
 fn put_lines(bytes: &mut [u8]) {
-    input::fill_bytes(bytes, 35);
     let mut at = input::next_word() as usize;
     let mut left = input::next_word();
     while 0 < left {
-        let line = input::next_word();
-        at = put(line, bytes, at);
+        at = put(input::next_word(), bytes, at);
         shown::show(at as u64);
         left -= 1;
     }
@@ -150,11 +125,11 @@ fn put_lines(bytes: &mut [u8]) {
     shown::line_end();
 }
 
-// Kind 9: how many bytes there are for them, and lines of an answer.
-pub fn writing_case(bytes: &mut [u8]) {
+// Kind 9: how many bytes there are for them, each a `#`, and lines of an answer.
+pub fn writing_case() {
+    let mut bytes = [b'#'; 16400];
     let room = input::next_word() as usize;
-    if bytes.len() < room {
-        return;
+    if room <= 16400 {
+        put_lines(&mut bytes[..room]);
     }
-    put_lines(&mut bytes[..room]);
 }

@@ -1,5 +1,4 @@
 -- `answer_row`: a report's entries are in the run that was lent for them.
-use native.Mathlib.Omega.{arith}
 use lib.ListN.{length}
 use Rattle.rows.specs.Schedule.{fits-from}
 use borrow.Author.Needs.{needs}
@@ -15,31 +14,32 @@ cast-chunks c = search needs
 add-chunks : tie.Need-add-chunks
 add-chunks c = search needs
 
+slice-aggregate-read-row : tie.Need-slice-aggregate-read-row
+slice-aggregate-read-row c = search needs
+
+slice-aggregate-read-row-2 : tie.Need-slice-aggregate-read-row-2
+slice-aggregate-read-row-2 c = search needs
+
+slice-aggregate-read-row-3 : tie.Need-slice-aggregate-read-row-3
+slice-aggregate-read-row-3 c = search needs
+
 read-row-requires : tie.Need-read-row-requires
-read-row-requires c κs = c .before .before .before .before .before .before .before .before .before .before .pre .1
+read-row-requires c κs = search needs
+
+slice-aggregate-write-row : tie.Need-slice-aggregate-write-row
+slice-aggregate-write-row c = search needs
+
+slice-aggregate-write-row-2 : tie.Need-slice-aggregate-write-row-2
+slice-aggregate-write-row-2 c = search needs
 
 write-row-requires : tie.Need-write-row-requires
 write-row-requires c κs =
-    let a = c .before .before .before .before .before .before .before .before .before .before .before .before .before .before .before .before .before .before .before .args in
-    let read = c .before .before .before .before .before .before .before .before .read-row in
-    fits-from (a .words .now) (a .tokens .now) (a .cuts .now) (a .matrix .now) (a .area .now) (length (a .entries .now)) (length (read .last .1 .1 .1 .1 .1 .0)) (read .result)
-    (read .ensures .0)
-    (omega arith)
-
-same-length : tie.Need-same-length
-same-length c = search needs
-
-same-length-2 : tie.Need-same-length-2
-same-length-2 c = search needs
-
-same-length-3 : tie.Need-same-length-3
-same-length-3 c = search needs
-
-same-length-4 : tie.Need-same-length-4
-same-length-4 c = search needs
+    let a = c .before .before .before .before .before .before .before .before .before .before .before .before .args in
+    let read = c .before .before .before .before .before .read-row in
+    fits-from (a .words .now) (a .tokens .now) (a .cuts .now) _ _ _ (length (read .last .1 .1 .1 .1 .1 .0)) (read .result) (read .ensures .0) (read .kept .1 .1 .1 .1 .1 .0)
 
 returns : tie.Need-returns
-returns c = search needs
+returns c = tt
 
 pub answer-row-spec : {M : Type 1} → statement M
 answer-row-spec =
@@ -48,10 +48,11 @@ answer-row-spec =
     cast-count
     cast-chunks
     add-chunks
+    slice-aggregate-read-row
+    slice-aggregate-read-row-2
+    slice-aggregate-read-row-3
     read-row-requires
+    slice-aggregate-write-row
+    slice-aggregate-write-row-2
     write-row-requires
-    same-length
-    same-length-2
-    same-length-3
-    same-length-4
     returns)

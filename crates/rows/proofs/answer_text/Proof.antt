@@ -12,51 +12,37 @@ enum-known-said : tie.Need-enum-known-said
 enum-known-said c = search needs
 
 write-text-requires : tie.Need-write-text-requires
-write-text-requires c κs = search needs
+write-text-requires c κs = tt
 
 enum-known-said-2 : tie.Need-enum-known-said-2
 enum-known-said-2 c = search needs
 
 slice-aggregate-answer-row : tie.Need-slice-aggregate-answer-row
 slice-aggregate-answer-row c =
-    let l = rw (c .before .before .said2 .given .1) at (c .before .before .before .before .before .before .before .before .before .before .before .pre .0) in simp length-take (omega (arith, l .0))
+    let l = rw (c .before .before .said2 .given .1) at (c .before .before .before .before .before .before .before .pre .0) in simp length-take (omega (arith, l .0))
 
 slice-aggregate-answer-row-2 : tie.Need-slice-aggregate-answer-row-2
 slice-aggregate-answer-row-2 c =
-    let l = rw (c .before .before .before .said2 .given .1) at (c .before .before .before .before .before .before .before .before .before .before .before .before .pre .0) in simp length-take (omega (arith, l .1))
+    let l = rw (c .before .before .before .said2 .given .1) at (c .before .before .before .before .before .before .before .before .pre .0) in simp length-take (omega (arith, l .1))
 
 slice-aggregate-answer-row-3 : tie.Need-slice-aggregate-answer-row-3
 slice-aggregate-answer-row-3 c =
-    let l = rw (c .before .before .before .before .said2 .given .1) at (c .before .before .before .before .before .before .before .before .before .before .before .before .before .pre .0) in simp length-take (omega (arith, l .2))
+    let l = rw (c .before .before .before .before .said2 .given .1) at (c .before .before .before .before .before .before .before .before .before .pre .0) in
+    simp length-take (omega (arith, l .2))
 
 answer-row-requires : tie.Need-answer-row-requires
 answer-row-requires c κs =
-    let l = rw (c .before .before .before .before .before .before .before .before .said2 .given .1) at (c .before .before .before .before .before .before .before .before .before .before .before .before .before .before .before .before .before .pre .0) in
+    let l = rw (c .before .before .before .before .said2 .given .1) at (c .before .before .before .before .before .before .before .before .before .pre .0) in
     (simp length-take (omega (arith, l .1)), simp length-take (omega (arith, l .2)))
 
 returns : tie.Need-returns
-returns c = search needs
-
-same-length : tie.Need-same-length
-same-length c = search needs
+returns c = tt
 
 returns-2 : tie.Need-returns-2
-returns-2 c = search needs
-
-same-length-2 : tie.Need-same-length-2
-same-length-2 c = search needs
-
-same-length-3 : tie.Need-same-length-3
-same-length-3 c = search needs
-
-same-length-4 : tie.Need-same-length-4
-same-length-4 c = search needs
-
-same-length-5 : tie.Need-same-length-5
-same-length-5 c = search needs
+returns-2 c = tt
 
 returns-3 : tie.Need-returns-3
-returns-3 c = search needs
+returns-3 c = tt
 
 pub answer-text-spec : {M : Type 1} → statement M
 answer-text-spec =
@@ -71,10 +57,5 @@ answer-text-spec =
     slice-aggregate-answer-row-3
     answer-row-requires
     returns
-    same-length
     returns-2
-    same-length-2
-    same-length-3
-    same-length-4
-    same-length-5
     returns-3)

@@ -1,9 +1,9 @@
--- `vectors::input::read_run` reads one piece after the other: fewer are left.
+-- `vectors::input::read_run` reads one piece after the other: fewer are left, and each keeps within the run.
 -- Assumes nothing.
 use borrow.Author.Needs.{needs}
-use Prim.Native.Nat.{_+_, _≤_, _<_, _-_}
-use mathlib.Core.Path.{_≡_}
 use lib.ListN.{length}
+use mathlib.Core.Path.{_≡_}
+use Prim.Native.Nat.{_+_, _≤_, _<_, _-_}
 use Rattle.vectors.proofs.input.read_run.Statement.{statement}
 use Rattle.vectors.proofs.input.read_run.Tie as tie
 use Rattle.vectors.proofs.input.read_run.Reads as reads
@@ -12,32 +12,32 @@ use Rattle.vectors.proofs.input.next_word.Reads as next-word-reads
 use Rattle.vectors.proofs.input.read_piece.Reads as read-piece-reads
 
 abbrev Inv-loop : tie.InvT-loop
-Inv-loop run₀ left₀ at₀ run left at = length run ≡ length run₀
+Inv-loop run₀ left₀ at₀ run left at = (length run ≡ length run₀) × (at ≤ length run₀)
 
 abbrev μ-loop : tie.MeasureT-loop
 μ-loop run₀ left₀ at₀ run left at = left
 
--- src/input.rt:63:9
+-- src/input.rt:65:9
 next-word-requires : tie.Need-next-word-requires Inv-loop μ-loop
 next-word-requires c κs = tt
 
--- src/input.rt:65:5
+-- src/input.rt:67:5
 loop-holds : tie.Need-loop-holds Inv-loop μ-loop
 loop-holds c = search needs
 
--- src/input.rt:66:9
+-- src/input.rt:68:9
 read-piece-requires : tie.Need-read-piece-requires Inv-loop μ-loop
-read-piece-requires c κs = tt
+read-piece-requires c κs = search needs
 
--- src/input.rt:67:9
+-- src/input.rt:69:9
 sub-left : tie.Need-sub-left Inv-loop μ-loop
 sub-left c = search needs
 
--- src/input.rt:65:5
+-- src/input.rt:67:5
 loop-less : tie.Need-loop-less Inv-loop μ-loop
 loop-less c = search needs
 
--- src/input.rt:65:5
+-- src/input.rt:67:5
 loop-again : tie.Need-loop-again Inv-loop μ-loop
 loop-again c = search needs
 
@@ -47,7 +47,7 @@ same-length c = search needs
 
 -- src/input.rt:62:1
 returns : tie.Need-returns Inv-loop μ-loop
-returns c = tt
+returns c = search needs
 
 pub read-run-spec : {M : Type 1} → statement M
 read-run-spec =

@@ -1,75 +1,50 @@
--- `vectors::rows::out_call`: the lent parts have the lengths that they are given.
+-- `vectors::rows::out_call`: the lent part has the length that it is given.
 -- Assumes nothing.
 use borrow.Author.Needs.{needs}
 use native.Mathlib.Omega.{arith}
-use lib.ListN.{length-take}
+use lib.ListN.{length, length-take}
 use Rattle.vectors.proofs.rows.out_call.Statement.{statement}
 use Rattle.vectors.proofs.rows.out_call.Tie as tie
 use Rattle.vectors.proofs.rows.out_call.Reads as reads
 use Rattle.vectors.proofs.rows.out_call.Lts as lts
 use Rattle.vectors.proofs.input.next_word.Reads as next-word-reads
-use Rattle.vectors.proofs.rows.parse_call.Reads as parse-call-reads
 use Rattle.vectors.proofs.rows.report_call.Reads as report-call-reads
 
--- src/rows.rt:113:16
+-- src/rows.rt:100:16
 next-word-requires : tie.Need-next-word-requires
 next-word-requires c κs = tt
 
--- src/rows.rt:113:16
+-- src/rows.rt:100:16
 cast-room : tie.Need-cast-room
 cast-room c = search needs
 
--- src/rows.rt:115:9
+-- src/rows.rt:102:9
 returns : tie.Need-returns
 returns c = tt
 
--- src/rows.rt:118:57
+-- src/rows.rt:111:9
 slice-relend-prefix-report-call : tie.Need-slice-relend-prefix-report-call
 slice-relend-prefix-report-call c = search needs
 
--- src/rows.rt:118:57
+-- src/rows.rt:111:9
 slice-aggregate-report-call : tie.Need-slice-aggregate-report-call
 slice-aggregate-report-call c = simp length-take (omega arith)
 
--- src/rows.rt:118:9
+-- src/rows.rt:104:5
 report-call-requires : tie.Need-report-call-requires
 report-call-requires c κs = tt
 
--- src/rows.rt:118:9
+-- src/rows.rt:90:1
 same-length : tie.Need-same-length
 same-length c = search needs
 
--- src/rows.rt:118:9
+-- src/rows.rt:90:1
 same-length-2 : tie.Need-same-length-2
 same-length-2 c = search needs
 
--- src/rows.rt:118:9
+-- src/rows.rt:90:1
 returns-2 : tie.Need-returns-2
 returns-2 c = tt
-
--- src/rows.rt:120:45
-slice-relend-prefix-parse-call : tie.Need-slice-relend-prefix-parse-call
-slice-relend-prefix-parse-call c = search needs
-
--- src/rows.rt:120:45
-slice-aggregate-parse-call : tie.Need-slice-aggregate-parse-call
-slice-aggregate-parse-call c = simp length-take (omega arith)
-
--- src/rows.rt:120:5
-parse-call-requires : tie.Need-parse-call-requires
-parse-call-requires c κs = tt
-
--- src/rows.rt:103:1
-same-length-3 : tie.Need-same-length-3
-same-length-3 c = search needs
-
--- src/rows.rt:103:1
-same-length-4 : tie.Need-same-length-4
-same-length-4 c = search needs
-
--- src/rows.rt:103:1
-returns-3 : tie.Need-returns-3
-returns-3 c = tt
 
 pub out-call-spec : {M : Type 1} → statement M
 out-call-spec =
@@ -83,10 +58,4 @@ out-call-spec =
     report-call-requires
     same-length
     same-length-2
-    returns-2
-    slice-relend-prefix-parse-call
-    slice-aggregate-parse-call
-    parse-call-requires
-    same-length-3
-    same-length-4
-    returns-3)
+    returns-2)

@@ -2,14 +2,15 @@
 -- Assumes nothing.
 use borrow.Author.Needs.{needs}
 use Prim.Native.Nat.{_+_, _≤_, _<_, _-_}
-use mathlib.Core.Path.{_≡_}
 use Rattle.vectors.proofs.rows.show_entries.Statement.{statement}
 use Rattle.vectors.proofs.rows.show_entries.Tie as tie
 use Rattle.vectors.proofs.rows.show_entries.Reads as reads
 use Rattle.vectors.proofs.rows.show_entries.Lts as lts
+use Rattle.report.proofs.entry_tokens.Reads as entry-tokens-reads
 use Rattle.vectors.proofs.input.next_wide.Reads as next-wide-reads
 use Rattle.vectors.proofs.input.next_word.Reads as next-word-reads
-use Rattle.vectors.proofs.rows.show_entry.Reads as show-entry-reads
+use Rattle.vectors.proofs.shown.show.Reads as show-reads
+use Rattle.vectors.proofs.shown.show_words.Reads as show-words-reads
 
 abbrev Inv-loop : tie.InvT-loop
 Inv-loop report tokens left₀ left = left ≤ 65536
@@ -17,39 +18,47 @@ Inv-loop report tokens left₀ left = left ≤ 65536
 abbrev μ-loop : tie.MeasureT-loop
 μ-loop report tokens left₀ left = left
 
--- src/rows.rt:259:9
+-- src/rows.rt:246:9
 next-word-requires : tie.Need-next-word-requires Inv-loop μ-loop
 next-word-requires c κs = tt
 
--- src/rows.rt:260:5
+-- src/rows.rt:247:5
 loop-holds : tie.Need-loop-holds Inv-loop μ-loop
 loop-holds c = search needs
 
--- src/rows.rt:261:28
+-- src/rows.rt:248:49
 next-wide-requires : tie.Need-next-wide-requires Inv-loop μ-loop
 next-wide-requires c κs = tt
 
--- src/rows.rt:261:28
-cast-show-entry : tie.Need-cast-show-entry Inv-loop μ-loop
-cast-show-entry c = search needs
+-- src/rows.rt:248:49
+cast-entry-tokens : tie.Need-cast-entry-tokens Inv-loop μ-loop
+cast-entry-tokens c = search needs
 
--- src/rows.rt:261:9
-show-entry-requires : tie.Need-show-entry-requires Inv-loop μ-loop
-show-entry-requires c κs = tt
+-- src/rows.rt:248:13
+entry-tokens-requires : tie.Need-entry-tokens-requires Inv-loop μ-loop
+entry-tokens-requires c κs = tt
 
--- src/rows.rt:262:9
+-- src/rows.rt:249:9
+show-requires : tie.Need-show-requires Inv-loop μ-loop
+show-requires c κs = tt
+
+-- src/rows.rt:250:9
+show-words-requires : tie.Need-show-words-requires Inv-loop μ-loop
+show-words-requires c κs = tt
+
+-- src/rows.rt:251:9
 sub-left : tie.Need-sub-left Inv-loop μ-loop
 sub-left c = search needs
 
--- src/rows.rt:260:5
+-- src/rows.rt:247:5
 loop-less : tie.Need-loop-less Inv-loop μ-loop
 loop-less c = search needs
 
--- src/rows.rt:260:5
+-- src/rows.rt:247:5
 loop-again : tie.Need-loop-again Inv-loop μ-loop
 loop-again c = search needs
 
--- src/rows.rt:258:1
+-- src/rows.rt:245:1
 returns : tie.Need-returns Inv-loop μ-loop
 returns c = tt
 
@@ -62,8 +71,10 @@ show-entries-spec =
     next-word-requires
     loop-holds
     next-wide-requires
-    cast-show-entry
-    show-entry-requires
+    cast-entry-tokens
+    entry-tokens-requires
+    show-requires
+    show-words-requires
     sub-left
     loop-less
     loop-again

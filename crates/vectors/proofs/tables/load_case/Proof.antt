@@ -8,7 +8,6 @@ use Rattle.vectors.proofs.tables.load_case.Tie as tie
 use Rattle.vectors.proofs.tables.load_case.Reads as reads
 use Rattle.vectors.proofs.tables.load_case.Lts as lts
 use Rattle.table.proofs.load.Reads as load-reads
-use Rattle.vectors.proofs.input.fill_bytes.Reads as fill-bytes-reads
 use Rattle.vectors.proofs.shown.line_end.Reads as line-end-reads
 use Rattle.vectors.proofs.shown.show.Reads as show-reads
 use Rattle.vectors.proofs.shown.show_answer.Reads as show-answer-reads
@@ -18,10 +17,6 @@ use Rattle.vectors.proofs.shown.sum_of_bytes.Reads as sum-of-bytes-read
 -- src/tables.rt:8:9
 returns : tie.Need-returns
 returns c = tt
-
--- src/tables.rt:10:5
-fill-bytes-requires : tie.Need-fill-bytes-requires
-fill-bytes-requires c κs = tt
 
 -- src/tables.rt:11:43
 slice-relend-prefix-load : tie.Need-slice-relend-prefix-load
@@ -76,7 +71,6 @@ load-case-spec =
     tie.close
     (tie.spec
     returns
-    fill-bytes-requires
     slice-relend-prefix-load
     slice-aggregate-load
     load-requires

@@ -1,4 +1,4 @@
--- `vectors::texts::writing_case`: the lent parts have the lengths that they are given.
+-- `vectors::texts::writing_case`: the lent part has the length that it is given.
 -- Assumes nothing.
 use borrow.Author.Needs.{needs}
 use native.Mathlib.Omega.{arith}
@@ -10,35 +10,31 @@ use Rattle.vectors.proofs.texts.writing_case.Lts as lts
 use Rattle.vectors.proofs.input.next_word.Reads as next-word-reads
 use Rattle.vectors.proofs.texts.put_lines.Reads as put-lines-reads
 
--- src/texts.rt:160:16
+-- src/texts.rt:140:16
 next-word-requires : tie.Need-next-word-requires
 next-word-requires c κs = tt
 
--- src/texts.rt:160:16
+-- src/texts.rt:140:16
 cast-room : tie.Need-cast-room
 cast-room c = search needs
 
--- src/texts.rt:162:9
-returns : tie.Need-returns
-returns c = tt
+-- src/texts.rt:142:19
+array-borrow-prefix-bytes : tie.Need-array-borrow-prefix-bytes
+array-borrow-prefix-bytes c = search needs
 
--- src/texts.rt:164:15
-slice-relend-prefix-put-lines : tie.Need-slice-relend-prefix-put-lines
-slice-relend-prefix-put-lines c = search needs
-
--- src/texts.rt:164:15
+-- src/texts.rt:142:19
 slice-aggregate-put-lines : tie.Need-slice-aggregate-put-lines
 slice-aggregate-put-lines c = simp length-take (omega arith)
 
--- src/texts.rt:164:5
+-- src/texts.rt:142:9
 put-lines-requires : tie.Need-put-lines-requires
 put-lines-requires c κs = tt
 
--- src/texts.rt:159:1
-same-length : tie.Need-same-length
-same-length c = search needs
+-- src/texts.rt:138:1
+returns : tie.Need-returns
+returns c = tt
 
--- src/texts.rt:159:1
+-- src/texts.rt:138:1
 returns-2 : tie.Need-returns-2
 returns-2 c = tt
 
@@ -48,9 +44,8 @@ writing-case-spec =
     (tie.spec
     next-word-requires
     cast-room
-    returns
-    slice-relend-prefix-put-lines
+    array-borrow-prefix-bytes
     slice-aggregate-put-lines
     put-lines-requires
-    same-length
+    returns
     returns-2)
