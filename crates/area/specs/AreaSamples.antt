@@ -10,20 +10,17 @@ use mathlib.Core.List.{List, [], _∷_, _++_}
 use Prim.Native.Nat.{ℕ}
 use lib.ListN.{length, drop}
 use Rattle.language.specs.Trees.{Span}
-use Rattle.machine.specs.States.{State, refused, became, refusedRun, ran, run, join, start}
-use Rattle.machine.specs.Samples.{tableOfK}
+use Rattle.machine.specs.States.{State, refusedRun, ran, run, start}
+use Rattle.machine.specs.Samples.{tableOfK, joinedOn}
 use Rattle.area.specs.Layout.{need, block, zeros, encode, decode}
 use Rattle.area.specs.Shape.{areaInShape, walkOf, lineOf, side, scanSlot}
 
 abbrev atStart : State Span
 atStart = start (1 ∷ 2 ∷ 3 ∷ 1 ∷ 2 ∷ 1 ∷ 4 ∷ 5 ∷ []) (4 ∷ [])
 
--- at most `budget` moves of chunk c; chunk 0 joined to the next
+-- at most `budget` moves of chunk c
 abbrev moved : ℕ → ℕ → State Span → State Span
 moved c budget s = elim (run tableOfK c budget s) [ refusedRun why ↦ s | ran j s′ ↦ s′ ]
-
-abbrev joinedOn : State Span → State Span
-joinedOn s = elim (join 0 s) [ refused why ↦ s | became s′ ↦ s′ ]
 
 -- "It moves chunk 0 until at rest, then 1, and so on, then joins chunk 0 rightwards, moving it to rest after each join"
 abbrev atEnd : State Span

@@ -4,7 +4,7 @@
 -- t, N: how many terminals and nonterminals the grammar has; n: how many tokens the row has.
 -- Rests on Layout, Kept and Shape.
 --
--- Main definitions: lastSlots (a block's words after its first slot), Stands, passedOver.
+-- Main definitions: lastSlots (a block's words after its first slot), EntryStands, passedOver.
 -- Main statements: block-slots, stands-to-tests, tests-to-stands, scan-block (every such block is passed), slot-view (which slots a
 -- scan lets pass).
 use mathlib.Core.Path.{_≡_, refl, sym, ap, _∙_}
@@ -25,7 +25,7 @@ use Rattle.machine.specs.Entries.{Unread, terminalAt, Entry, terminalOn, nonter
 use Rattle.machine.specs.RunsEnd.{MarksFine, fine-empty, fine-nonterminal, fine-unmarked, fine-marked}
 use Rattle.area.specs.declared.shape.Scan.{Scan}
 use Rattle.area.specs.Layout.{more, size, block, markWord, spanAt, unreadOf}
-use Rattle.area.specs.Kept.{Lies, first-end, last-end, within, InRange}
+use Rattle.area.specs.Kept.{Lies, first-end, last-end, within, SymbolInRange}
 use Rattle.area.specs.Lengths.{end-size}
 use Rattle.area.specs.Shape.{symbolFits, placeFits, tag, oneIfTerminal, broken, opened, inner, scanSlot, scanned}
 
@@ -50,9 +50,9 @@ block-slots mark x = rw (zeros-slots (more x) (size x))
 -- ---- a symbol on its slot
 
 -- a symbol with its mark, at this slot: it lies there, it is a symbol of the grammar, and a mark stands on no #
-pub record Stands (t N n slot : ℕ) (e : Entry Span) : Type 0 where
+pub record EntryStands (t N n slot : ℕ) (e : Entry Span) : Type 0 where
   pub lies : Lies n slot (unmarked e)
-  pub ranged : InRange t N (symbol (unmarked e))
+  pub ranged : SymbolInRange t N (symbol (unmarked e))
   pub fine : MarksFine (e ∷ [])
 
 -- what the tests of (f) say of such a symbol's words
@@ -63,7 +63,7 @@ pub record Tested (t N n slot s m l : ℕ) : Type 0 where
 abbrev pub word : Entry Span → ℕ
 word e = wordOf (symbol (unmarked e))
 
-symbol-tested : (t N : ℕ) → t < 256 → (e : Entry Span) → InRange t N (symbol (unmarked e)) → MarksFine (e ∷ []) → symbolFits t N (word e) (markWord e) ≡ true
+symbol-tested : (t N : ℕ) → t < 256 → (e : Entry Span) → SymbolInRange t N (symbol (unmarked e)) → MarksFine (e ∷ []) → symbolFits t N (word e) (markWord e) ≡ true
 symbol-tested t N few (terminalOn false a v) r f = rw (le-leb a t r)
 symbol-tested t N few (terminalOn true a v) r (fine-marked i f) = rw (i, le-leb a t r)
 symbol-tested t N few (nonterminalOn k v) r f =
@@ -84,7 +84,7 @@ place-tested {n} {slot} x (within l h e v) =
       le-leb (slot + size x) (n + 1) h,
     )
 
-pub stands-to-tests : {t N n slot : ℕ} → t < 256 → (e : Entry Span) → Stands t N n slot e → Tested t N n slot (word e) (markWord e) (size (unmarked e))
+pub stands-to-tests : {t N n slot : ℕ} → t < 256 → (e : Entry Span) → EntryStands t N n slot e → Tested t N n slot (word e) (markWord e) (size (unmarked e))
 stands-to-tests {t} {N} few e st =
     record { symbol-fits = symbol-tested t N few e (st .ranged) (st .fine); place-fits = place-tested (unmarked e) (st .lies) }
 
@@ -146,7 +146,7 @@ pub record Opening (t N n slot s m l : ℕ) : Type 0 where
   pub word-is : word entry ≡ s
   pub mark-is : markWord entry ≡ m
   pub size-is : size (unmarked entry) ≡ l
-  pub stands : Stands t N n slot entry
+  pub stands : EntryStands t N n slot entry
 
 -- a symbol other than # on the slots from `slot` on, l of them
 record Inside (n slot l : ℕ) (y : Symbol) : Type 0 where
@@ -253,7 +253,7 @@ module _ (t N n : ℕ) where
       ∙ scan-rest k count (slot + 1) l y x m words)
 
   -- a block is passed
-  pub scan-block : t < 256 → (count slot : ℕ) (st : Scan) (e : Entry Span) (words : List ℕ) → st .ok ≡ true → st .within ≡ 0 → Stands t N n slot e
+  pub scan-block : t < 256 → (count slot : ℕ) (st : Scan) (e : Entry Span) (words : List ℕ) → st .ok ≡ true → st .within ≡ 0 → EntryStands t N n slot e
       → scanned t N n (size (unmarked e) + count) slot (block (markWord e) (unmarked e) ++ words) st
       ≡ scanned t N n count (slot + size (unmarked e)) words (passedOver st e)
   scan-block few count slot st e words o i h =

@@ -15,9 +15,10 @@ use Rattle.language.specs.Trees.{Span}
 use Rattle.machine.specs.Entries.{Unread, Entry, stackSymbols}
 use Rattle.machine.specs.Chunks.{Chunk}
 use Rattle.machine.specs.States.{State, live}
+use Rattle.machine.specs.Starts.{symbolsAlong}
 use Rattle.machine.specs.Bounded.{AllFine, all-fine-nil, all-fine-cons}
 use Rattle.area.specs.Layout.{stackSize, unreadSize, chunkSize, total}
-use Rattle.area.specs.Kept.{Tiles, tiled, AllInRange, none-left, symbolsOf, LastHolds, holds, later-holds, Ending, whole, accepted, AllStuckFine, no-chunk, and-chunk, Kept}
+use Rattle.area.specs.Kept.{Tiles, tiled, AllInRange, none-left, LastHolds, holds, later-holds, Ending, whole, accepted, AllStuckFine, no-chunk, and-chunk, Kept}
 use Rattle.area.specs.Lengths.{tiles-end, stack-size, symbols-size, unread-append}
 use Rattle.area.specs.Tiling.{tiles-split, tiles-join, ranged-split, ranged-join}
 use Rattle.area.specs.Sides.{placed-at}
@@ -43,16 +44,16 @@ some-symbols [] [] h = h
 some-symbols [] (x ∷ unread) h = omega arith
 some-symbols (x ∷ stack) unread h = omega arith
 
-chunk-symbols : (c : Chunk Span) (chunks : List (Chunk Span)) → unreadSize (symbolsOf (c ∷ chunks)) ≡ chunkSize (some c) + unreadSize (symbolsOf chunks)
+chunk-symbols : (c : Chunk Span) (chunks : List (Chunk Span)) → unreadSize (symbolsAlong (c ∷ chunks)) ≡ chunkSize (some c) + unreadSize (symbolsAlong chunks)
 chunk-symbols c chunks =
-    let rest : List (Unread Span) = symbolsOf chunks in
+    let rest : List (Unread Span) = symbolsAlong chunks in
     omega (arith, unread-append (stackSymbols (c .stack)) (c .unread ++ rest), unread-append (c .unread) rest, stack-size (c .stack))
 
-holds-some : {chunks : List (Chunk Span)} → LastHolds chunks → 0 < unreadSize (symbolsOf chunks)
+holds-some : {chunks : List (Chunk Span)} → LastHolds chunks → 0 < unreadSize (symbolsAlong chunks)
 holds-some (holds {c = c} h) = omega (arith, some-symbols (c .stack) (c .unread) h, chunk-symbols c [])
 holds-some (later-holds {c = c} {chunks = chunks} k) = omega (arith, holds-some k, chunk-symbols c chunks)
 
-room-begins : {n from end : ℕ} {c : Chunk Span} {chunks : List (Chunk Span)} → Room n (c ∷ chunks) end → Tiles n from (symbolsOf (c ∷ chunks)) end
+room-begins : {n from end : ℕ} {c : Chunk Span} {chunks : List (Chunk Span)} → Room n (c ∷ chunks) end → Tiles n from (symbolsAlong (c ∷ chunks)) end
     → from ≤ n + 1
 room-begins (nothing-live q) p = let z : _≡_ {A = ℕ} 0 1 = cc in absurd (omega arith)
 room-begins (ends-early h) p = omega (arith, tiles-end p)
@@ -62,13 +63,13 @@ ending-room : {n end : ℕ} {chunks : List (Chunk Span)} → Ending n chunks end
 ending-room (whole h) = last-holds (omega arith) h
 ending-room (accepted q) = ends-early (omega arith)
 
-fits-of : {t N n from end : ℕ} (chunks : List (Option (Chunk Span))) → Tiles n from (symbolsOf (live chunks)) end → AllInRange t N (symbolsOf (live chunks))
+fits-of : {t N n from end : ℕ} (chunks : List (Option (Chunk Span))) → Tiles n from (symbolsAlong (live chunks)) end → AllInRange t N (symbolsAlong (live chunks))
     → AllFine (live chunks) → AllStuckFine (live chunks) → Room n (live chunks) end → AllFit t N n from chunks
 fits-of [] p r f k m = no-more-fit
 fits-of (none ∷ chunks) p r f k m = gone-fits (fits-of chunks p r f k m)
 fits-of {t} {N} {n} {from} (some c ∷ chunks) p r (all-fine-cons f fs) (and-chunk k ks) m =
     let stack : List (Unread Span) = stackSymbols (c .stack) in
-    let rest : List (Unread Span) = symbolsOf (live chunks) in
+    let rest : List (Unread Span) = symbolsAlong (live chunks) in
     let s = rising-stack (c .stack) in
     let u = plain-unread (c .unread) in
     let p₁ = tiles-split stack (c .unread ++ rest) p in
@@ -93,7 +94,7 @@ kept-fits {s = s} k = fits-of (s .chunks) (k .tiles) (k .ranged) (k .fine) (k .s
 -- ---- back
 
 pub tiles-from : {t N n from : ℕ} {chunks : List (Option (Chunk Span))} → AllFit t N n from chunks
-    → Tiles n from (symbolsOf (live chunks)) (from + total chunks)
+    → Tiles n from (symbolsAlong (live chunks)) (from + total chunks)
 tiles-from {from = from} no-more-fit = let z : from + 0 ≡ from = omega arith in rw z tiled
 tiles-from {from = from} (gone-fits {chunks = chunks} f) = let z : from + (0 + total chunks) ≡ from + total chunks = omega arith in rw z (tiles-from f)
 tiles-from {from = from} (live-fits {c = c} {chunks = chunks} f fs) =
@@ -102,7 +103,7 @@ tiles-from {from = from} (live-fits {c = c} {chunks = chunks} f fs) =
     let unread = rw (plain-unread (c .unread) .symbols-are) at (tiles-of (f .unread-stands)) in
     rw z (tiles-join stack (tiles-join unread (tiles-from fs)))
 
-pub ranged-from : {t N n from : ℕ} {chunks : List (Option (Chunk Span))} → AllFit t N n from chunks → AllInRange t N (symbolsOf (live chunks))
+pub ranged-from : {t N n from : ℕ} {chunks : List (Option (Chunk Span))} → AllFit t N n from chunks → AllInRange t N (symbolsAlong (live chunks))
 ranged-from no-more-fit = none-left
 ranged-from (gone-fits f) = ranged-from f
 ranged-from (live-fits {c = c} f fs) =
@@ -127,7 +128,7 @@ holds-of [] [] h = h
 holds-of [] (x ∷ unread) h = omega arith
 holds-of (x ∷ stack) unread h = omega arith
 
-last-here : (n from : ℕ) (c : Chunk Span) (rest : List (Chunk Span)) → from ≤ n + 1 → from + (chunkSize (some c) + unreadSize (symbolsOf rest)) ≡ n + 2
+last-here : (n from : ℕ) (c : Chunk Span) (rest : List (Chunk Span)) → from ≤ n + 1 → from + (chunkSize (some c) + unreadSize (symbolsAlong rest)) ≡ n + 2
     → (0 < length rest → LastHolds rest) → LastHolds (c ∷ rest)
 last-here n from c [] h q k = holds (holds-of (c .stack) (c .unread) (omega arith))
 last-here n from c (d ∷ rest) h q k = later-holds (k (omega arith))

@@ -24,13 +24,14 @@ use Rattle.machine.specs.Entries.{Unread, terminalAt, nonterminalAt, Entry, ter
 use Rattle.machine.specs.Moves.{noRelation, noRule, notAxiom, sideBySide}
 use Rattle.machine.specs.Chunks.{Status, running, stuck, Chunk}
 use Rattle.machine.specs.States.{State}
-use Rattle.area.specs.Layout.{need, size, block, markWord, stackSize, stackWords, unreadWords, chunkSize, chunkWords, statusWord, row, rows, slots, encode, rowWord, slotsAt, slotWord, madeAtWord, spanAt, unreadOf, entryOf, unreadAt, entryAt, readUnread, readStack, statusOf, chunkOf, readMade, decode}
-use Rattle.area.specs.Kept.{Lies, first-end, last-end, within, InRange, Kept}
+use Rattle.area.specs.Layout.{need, size, block, markWord, stackSize, stackWords, unreadWords, chunkSize, chunkWords, statusWord, row, rows, slots, encode, rowWord, slotsAt}
+use Rattle.area.specs.Layout.{slotWord, madeAtWord, spanAt, unreadOf, stackEntryOf, unreadAt, stackEntryAt, readUnread, readStack, statusOf, chunkOf, readMade, decode}
+use Rattle.area.specs.Kept.{Lies, first-end, last-end, within, SymbolInRange, Kept}
 use Rattle.area.specs.Lengths.{length-row, length-stack, length-chunk, length-block, within-slots, encode-length}
-use Rattle.area.specs.Blocks.{Stands, word}
+use Rattle.area.specs.Blocks.{EntryStands, word}
 use Rattle.area.specs.Sides.{risingWords, Placed, no-more, then-stands, placed-end}
 use Rattle.area.specs.Rising.{rising-stack, plain-unread}
-use Rattle.area.specs.Walks.{Fits, AllFit, no-more-fit, gone-fits, live-fits, status-word}
+use Rattle.area.specs.Walks.{ChunkFits, AllFit, no-more-fit, gone-fits, live-fits, status-word}
 use Rattle.area.specs.Chunkwise.{kept-fits}
 use Rattle.area.specs.Encoded.{area, slotsFrom, slots-past, fromSlots, fromUnusedSlots, fromUnusedMade, chunks-at, moves-at, count-at, table-at, slots-at, made-at}
 use Rattle.area.specs.Shape.{areaInShape}
@@ -38,7 +39,7 @@ use Rattle.area.specs.ShapeExactly.{HoldsState, shape-state}
 
 -- ---- a symbol
 
-symbol-back : (t N : ℕ) → t < 256 → (y : Symbol) → InRange t N y → symbolOf (wordOf y) ≡ y
+symbol-back : (t N : ℕ) → t < 256 → (y : Symbol) → SymbolInRange t N y → symbolOf (wordOf y) ≡ y
 symbol-back t N few (terminal a) r = rw (lt-ltb a 256 (omega arith), symbolOf)
 symbol-back t N few (nonterminal k) r = let e : 256 + k - 256 ≡ k = omega arith in rw (le-ltb (256 + k) 256 (omega arith), symbolOf, e)
 
@@ -51,7 +52,7 @@ symbol-read : (x : Unread Span) → unreadOf (symbol x) (valueOf x) ≡ x
 symbol-read (terminalAt a v) = refl
 symbol-read (nonterminalAt k v) = refl
 
-entry-read : (x : Entry Span) → entryOf (markWord x) (symbol (unmarked x)) (valueOf (unmarked x)) ≡ x
+entry-read : (x : Entry Span) → stackEntryOf (markWord x) (symbol (unmarked x)) (valueOf (unmarked x)) ≡ x
 entry-read (terminalOn true a v) = refl
 entry-read (terminalOn false a v) = refl
 entry-read (nonterminalOn k v) = refl
@@ -78,11 +79,11 @@ module _ (t N n : ℕ) (few : t < 256) (words : List ℕ) where
       let at : (k : ℕ) → slotWord words s k ≡ getD (block (markWord x) (unmarked x) ++ after) k 0 = λ k. getD-past words (slotsAt words + 4 * s) k _ d in
       record { symbol-at = at 0; mark-at = at 1; size-at = at 2 }
 
-  entry-at : (s : ℕ) (x : Entry Span) → Stands t N n s x → EntryAt s x → entryAt words s ≡ x
+  entry-at : (s : ℕ) (x : Entry Span) → EntryStands t N n s x → EntryAt s x → stackEntryAt words s ≡ x
   entry-at s x st e =
       rw (e .symbol-at, e .mark-at, e .size-at, symbol-back t N few (symbol (unmarked x)) (st .ranged), ← value-of (st .lies)) (entry-read x)
 
-  unread-at : (s : ℕ) (x : Entry Span) → Stands t N n s x → EntryAt s x → unreadAt words s ≡ unmarked x
+  unread-at : (s : ℕ) (x : Entry Span) → EntryStands t N n s x → EntryAt s x → unreadAt words s ≡ unmarked x
   unread-at s x st e =
       rw (e .symbol-at, e .size-at, symbol-back t N few (symbol (unmarked x)) (st .ranged), ← value-of (st .lies)) (symbol-read (unmarked x))
 
@@ -123,7 +124,7 @@ module _ (t N n : ℕ) (few : t < 256) (words : List ℕ) where
       let e : eqb (rowWord words c 0) 0 ≡ true = ap (λ x. eqb x 0) (row-words c from none after d 0 (omega arith)) in
       rw (e, chunkOf)
 
-  live-back : (c from : ℕ) (chunk : Chunk Span) (after beyond : List ℕ) → Fits t N n from chunk → drop (5 + 5 * c) words ≡ row from (some chunk) ++ after
+  live-back : (c from : ℕ) (chunk : Chunk Span) (after beyond : List ℕ) → ChunkFits t N n from chunk → drop (5 + 5 * c) words ≡ row from (some chunk) ++ after
       → slotsFrom words from ≡ chunkWords (some chunk) ++ beyond → chunkOf words c ≡ some chunk
   live-back c from chunk after beyond f d b =
       let head : ℕ = from + stackSize (chunk .stack) in
@@ -164,14 +165,15 @@ module _ (t N n : ℕ) (few : t < 256) (words : List ℕ) where
 
 -- ---- the reductions
 
-made-back : (reductions : List (Reduction Span)) (words : List ℕ) (i : ℕ) (after : List ℕ) → drop i words ≡ reportWords reductions ++ after
+-- writing reductions, and reading these words
+pub entries-back : (reductions : List (Reduction Span)) (words : List ℕ) (i : ℕ) (after : List ℕ) → drop i words ≡ reportWords reductions ++ after
     → readMade (length reductions) words i ≡ reductions
-made-back [] words i after d = refl
-made-back (x ∷ reductions) words i after d =
+entries-back [] words i after d = refl
+entries-back (x ∷ reductions) words i after d =
     let z : getD words i 0 ≡ getD words (i + 0) 0 = ap (λ j. getD words j 0) (sym (add-zero i)) in
     let at : (k : ℕ) → getD words (i + k) 0 ≡ getD (reportWords (x ∷ reductions) ++ after) k 0 = λ k. getD-past words i k _ d in
     let d₁ = drop-past words i (i + 3) (reportWords (x ∷ [])) (reportWords reductions ++ after) refl d in
-    rw (z ∙ at 0, at 1, at 2, made-back reductions words (i + 3) after d₁)
+    rw (z ∙ at 0, at 1, at 2, entries-back reductions words (i + 3) after d₁)
 
 -- ---- the whole
 
@@ -186,7 +188,7 @@ module _ {t N n : ℕ} {s : State Span} (few : t < 256) (k : Kept t N n s) (rest
       let cs = ap (λ c. map (chunkOf words) (upTo c)) (chunks-at n s rest) ∙ map-upTo (chunkOf words) (s .chunks) none at in
       let ms =
       ap (λ m. readMade m words (madeAtWord words)) (count-at n s rest)
-      ∙ made-back (s .reductions) words (madeAtWord words) (fromUnusedMade n s rest) (made-at n s rest (within-slots k)) in
+      ∙ entries-back (s .reductions) words (madeAtWord words) (fromUnusedMade n s rest) (made-at n s rest (within-slots k)) in
       λ i. record { chunks = cs i; reductions = ms i; moves = moves-at n s rest i }
 
 -- no two states that keep the rules have the same words

@@ -4,18 +4,19 @@
 -- rules gets the move named above".
 -- Rests on Shape and WordsOfShape, on machine's TableOf, and on language's Matrix and Loads.
 --
--- Main statements: end-mark-of-shape, grammar-in-shape, end-mark-in-shape, matrix-in-shape.
+-- Main statements: end-mark-of-shape, grammar-in-shape, end-mark-in-shape, matrix-in-shape, own-shape.
 use mathlib.Core.Path.{_≡_, refl, sym, ap, _∙_}
-use mathlib.Core.Bool.{Bool, true, false, false≢true}
+use mathlib.Core.Bool.{Bool, true, false}
 use mathlib.Core.Logic.{_⊎_, inl, inr}
-use mathlib.Core.List.{List, _++_}
+use mathlib.Core.List.{List, [], _++_, append-nil}
 use Prim.Native.Nat.{ℕ, zero, suc, _+_, _*_, _/_, _%_, _≤_, _<_}
 use native.Mathlib.Omega.{arith}
 use native.Mathlib.Decide.{decLt}
 use lib.Dec.{eqb, ltb, leb}
 use lib.ListN.{length, getD, length-append, List·getD-append}
 use Rattle.laws.specs.Tests.{all, all-each, each-all, upTo, upTo-below, below-upTo, ltb-true, leb-true, eqb-true, eqb-false, lt-ltb, le-ltb, le-leb, eq-eqb}
-use Rattle.laws.specs.Picks.{pick}
+use Rattle.laws.specs.Picks.{pick, both-pick}
+use Rattle.laws.specs.Passed.{both}
 use Rattle.language.specs.Symbols.{yields, equal, takes, Relation}
 use Rattle.language.specs.Grammar.{Grammar}
 use Rattle.language.specs.SetMasks.{InRange}
@@ -28,17 +29,8 @@ use Rattle.machine.specs.TableOf.{relationFrom, relationAt, tableOf}
 use Rattle.area.specs.Shape.{ruleA, byteFits, ruleB, grammarInShape}
 use Rattle.area.specs.WordsOfShape.{rule-a-exactly}
 
--- ---- tests one after the other
+-- ---- every byte below k
 
-pick-both : (b c : Bool) → pick b c false ≡ true → (b ≡ true) × (c ≡ true)
-pick-both true c e = (refl, e)
-pick-both false c e = absurd (false≢true e)
-
-both-pick : (b c : Bool) → b ≡ true → c ≡ true → pick b c false ≡ true
-both-pick true c p q = q
-both-pick false c p q = p
-
--- every byte below k
 bytes-each : (test : ℕ → Bool) (k : ℕ) → all test (upTo k) ≡ true → (v : ℕ) → v < k → test v ≡ true
 bytes-each test k e v h = all-each test (below-upTo k v h) e
 
@@ -109,7 +101,7 @@ from-equals (from-equal i e) q = i
 module _ (t : ℕ) (bytes : List ℕ) (fits : ruleB t bytes ≡ true) where
   byte-fits : (v : ℕ) → v < 4096 → byteFits t (v / 64) (v % 64) (getD bytes v 0) ≡ true
   byte-fits = bytes-each (λ v. byteFits t (v / 64) (v % 64) (getD bytes v 0)) 4096
-      (pick-both (leb 4096 (length bytes)) (all (λ v. byteFits t (v / 64) (v % 64) (getD bytes v 0)) (upTo 4096)) fits .1)
+      (both (leb 4096 (length bytes)) (all (λ v. byteFits t (v / 64) (v % 64) (getD bytes v 0)) (upTo 4096)) fits .good)
 
   byte-at : (a b : ℕ) → a < 64 → b < 64 → byteFits t a b (getD bytes (64 * a + b) 0) ≡ true
   byte-at a b ha hb =
@@ -148,7 +140,7 @@ module _ (t : ℕ) (bytes : List ℕ) (fits : ruleB t bytes ≡ true) where
 -- the rules of grammar and matrix are (a) and (b)
 pub grammar-in-shape : (words bytes : List ℕ) → grammarInShape words bytes ≡ true → (ruleA words ≡ true) × (ruleB (countT words) bytes ≡ true)
 unfolding grammarInShape
-grammar-in-shape words bytes h = pick-both (ruleA words) (ruleB (countT words) bytes) h
+grammar-in-shape words bytes h = let p = both (ruleA words) (ruleB (countT words) bytes) h in (p .passes, p .good)
 
 pub end-mark-in-shape : (words bytes : List ℕ) → grammarInShape words bytes ≡ true → EndMark (tableOf words bytes)
 end-mark-in-shape words bytes h = end-mark-of-shape (countT words) bytes (grammar-in-shape words bytes h .1) words
@@ -218,3 +210,7 @@ module _ (words : List ℕ) (accepted : Accepted words) (rest : List ℕ) where
   matrix-in-shape =
       let p = accepted .passed in
       both-pick (ruleA words) (ruleB (countT words) bytes) (rule-a-exactly words .1 (record { head = p .head; contents = p .contents; symbols = p .symbols })) matrix-fits
+
+-- .. and where none do
+pub own-shape : {words : List ℕ} → Accepted words → grammarInShape words (matrixOf (grammarOf words)) ≡ true
+own-shape {words} accepted = rw (append-nil (matrixOf (grammarOf words))) at (matrix-in-shape words accepted [])

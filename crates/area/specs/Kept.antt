@@ -1,22 +1,23 @@
 -- The rules of docs/AREA.md as rules of a state: which rows being read can stand in a work area. Every state that a start reaches
 -- keeps them, and so does what any move or join makes of a state that does.
 -- Document 01: "The shape rules speak only of ranges, lengths and counts".
--- Rests on Layout, and on machine's Bounded.
+-- Rests on Layout, and on machine's Starts and Bounded.
 --
 -- Main definitions: Lies, Tiles, Ending, Kept.
 use mathlib.Core.Path.{_≡_}
 use mathlib.Core.Bool.{Bool, true, false}
 use mathlib.Core.Logic.{_⊎_}
-use mathlib.Core.List.{List, [], _∷_, _++_}
+use mathlib.Core.List.{List, [], _∷_}
 use mathlib.Core.Option.{Option, none, some}
 use Prim.Native.Nat.{ℕ, zero, suc, _+_, _≤_, _<_}
 use lib.ListN.{length, getD}
 use Rattle.language.specs.Symbols.{Symbol, terminal, nonterminal}
 use Rattle.language.specs.Trees.{Span}
-use Rattle.machine.specs.Entries.{Unread, terminalAt, nonterminalAt, Entry, symbol, valueOf, stackSymbols}
+use Rattle.machine.specs.Entries.{Unread, terminalAt, nonterminalAt, Entry, symbol, valueOf}
 use Rattle.machine.specs.Moves.{noRule}
 use Rattle.machine.specs.Chunks.{Status, running, stuck, Chunk}
 use Rattle.machine.specs.States.{State, live}
+use Rattle.machine.specs.Starts.{symbolsAlong}
 use Rattle.machine.specs.Bounded.{terminalsIn, potential, AllFine, mostMoves}
 use Rattle.area.specs.Layout.{size, marks, spanAt}
 
@@ -32,19 +33,14 @@ pub data Tiles (n : ℕ) : ℕ → List (Unread Span) → ℕ → Type 0 where
   tile : {s e : ℕ} {x : Unread Span} {symbols : List (Unread Span)} → Lies n s x → Tiles n (s + size x) symbols e → Tiles n s (x ∷ symbols) e
 
 -- (f) a symbol of a grammar with that many terminals and nonterminals, or #
-abbrev pub InRange : ℕ → ℕ → Symbol → Type 0
-InRange terminals nonterminals (terminal a) = a ≤ terminals
-InRange terminals nonterminals (nonterminal k) = k < nonterminals
+abbrev pub SymbolInRange : ℕ → ℕ → Symbol → Type 0
+SymbolInRange terminals nonterminals (terminal a) = a ≤ terminals
+SymbolInRange terminals nonterminals (nonterminal k) = k < nonterminals
 
 pub data AllInRange (terminals nonterminals : ℕ) : List (Unread Span) → Type 0 where
   none-left : AllInRange terminals nonterminals []
-  in-range : {x : Unread Span} {symbols : List (Unread Span)} → InRange terminals nonterminals (symbol x) → AllInRange terminals nonterminals symbols
+  in-range : {x : Unread Span} {symbols : List (Unread Span)} → SymbolInRange terminals nonterminals (symbol x) → AllInRange terminals nonterminals symbols
       → AllInRange terminals nonterminals (x ∷ symbols)
-
--- the live chunks' symbols in order, each stack before its unread
-abbrev pub symbolsOf : List (Chunk Span) → List (Unread Span)
-symbolsOf [] = []
-symbolsOf (c ∷ chunks) = stackSymbols (c .stack) ++ (c .unread ++ symbolsOf chunks)
 
 -- (e) the last of some chunks holds a symbol: so no chunk starts after the # of the end
 pub data LastHolds : List (Chunk Span) → Type 0 where
@@ -77,8 +73,8 @@ pub record Kept (terminals nonterminals n : ℕ) (s : State Span) : Type 0 where
   pub first : FirstLive (s .chunks)
   pub end : ℕ
   pub ending : Ending n (live (s .chunks)) end
-  pub tiles : Tiles n 0 (symbolsOf (live (s .chunks))) end
-  pub ranged : AllInRange terminals nonterminals (symbolsOf (live (s .chunks)))
+  pub tiles : Tiles n 0 (symbolsAlong (live (s .chunks))) end
+  pub ranged : AllInRange terminals nonterminals (symbolsAlong (live (s .chunks)))
   pub fine : AllFine (live (s .chunks))
   pub stuck-fine : AllStuckFine (live (s .chunks))
   pub room : length (s .reductions) + terminalsIn (live (s .chunks)) ≤ n

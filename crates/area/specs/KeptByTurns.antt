@@ -2,7 +2,7 @@
 -- what a run leaves.
 -- Document 01: 15 is never given "for a state reached from such a load and start with those same words and matrix". It asks of the
 -- words that they pass 1 to 3, and of the matrix what it says of #; nothing here asks for an accepted load.
--- Rests on Kept, RowAfterTurn and RulesAfterTurn, and on machine's Schedules, Bounded and Counts.
+-- Rests on Kept, RowAfterTurn and RulesAfterTurn, and on machine's Schedules, AllowedExactly, Bounded and Counts.
 --
 -- Main statements: kept-turned, kept-made, kept-run, kept-scheduled.
 use mathlib.Core.Path.{_≡_, ap}
@@ -19,7 +19,8 @@ use Rattle.machine.specs.States.{State, ran, live, run}
 use Rattle.machine.specs.TableOf.{tableOf}
 use Rattle.machine.specs.Bounded.{Falls, falls-kept, moves-bounded}
 use Rattle.machine.specs.Schedules.{Turned, by-step, Schedule, no-turn, one-turn, listed}
-use Rattle.machine.specs.Counts.{MovesMade, none-made, one-and, run-exactly}
+use Rattle.machine.specs.AllowedExactly.{step-exactly}
+use Rattle.machine.specs.Counts.{NamedMoves, no-move, move-and, run-exactly}
 use Rattle.area.specs.Shape.{ruleA}
 use Rattle.area.specs.Kept.{Kept}
 use Rattle.area.specs.RowAfterTurn.{row-then}
@@ -54,9 +55,9 @@ module _ (words bytes : List ℕ) (rule-a : ruleA words ≡ true) (ends : EndMar
       }
 
   -- any number of moves of one chunk
-  pub kept-made : {t n c j : ℕ} {s s′ : State Span} → Kept t (countN words) n s → MovesMade table c s j s′ → Kept t (countN words) n s′
-  kept-made k none-made = k
-  kept-made {c = c} k (one-and q m) = kept-made (kept-turned k (by-step c q)) m
+  pub kept-made : {t n c j : ℕ} {s s′ : State Span} → Kept t (countN words) n s → NamedMoves table c s j s′ → Kept t (countN words) n s′
+  kept-made k no-move = k
+  kept-made {c = c} k (move-and {s = s} {s′ = s′} h m) = kept-made (kept-turned k (by-step c (step-exactly table c s s′ .0 h))) m
 
   -- "it makes moves until K are made or it rests"
   pub kept-run : {t n : ℕ} (c budget : ℕ) {j : ℕ} {s s′ : State Span} → Kept t (countN words) n s → run table c budget s ≡ ran j s′ → Kept t (countN words) n s′

@@ -153,16 +153,16 @@ abbrev pub unreadOf : Symbol → Span → Unread Span
 unreadOf (terminal a) v = terminalAt a v
 unreadOf (nonterminal k) v = nonterminalAt k v
 
-abbrev pub entryOf : ℕ → Symbol → Span → Entry Span
-entryOf mark (terminal a) v = terminalOn (eqb mark 1) a v
-entryOf mark (nonterminal k) v = nonterminalOn k v
+abbrev pub stackEntryOf : ℕ → Symbol → Span → Entry Span
+stackEntryOf mark (terminal a) v = terminalOn (eqb mark 1) a v
+stackEntryOf mark (nonterminal k) v = nonterminalOn k v
 
 -- the symbol of word w at slot s, of k slots
 abbrev pub unreadAt : List ℕ → ℕ → Unread Span
 unreadAt area s = let x : Symbol = symbolOf (slotWord area s 0) in unreadOf x (spanAt x s (slotWord area s 2))
 
-abbrev pub entryAt : List ℕ → ℕ → Entry Span
-entryAt area s = let x : Symbol = symbolOf (slotWord area s 0) in entryOf (slotWord area s 1) x (spanAt x s (slotWord area s 2))
+abbrev pub stackEntryAt : List ℕ → ℕ → Entry Span
+stackEntryAt area s = let x : Symbol = symbolOf (slotWord area s 0) in stackEntryOf (slotWord area s 1) x (spanAt x s (slotWord area s 2))
 
 -- the symbols of the slots from s up to e, at most `fuel` of them
 abbrev pub readUnread : ℕ → List ℕ → ℕ → ℕ → List (Unread Span)
@@ -172,7 +172,7 @@ readUnread (suc fuel) area s e = elim (ltb s e) [ true ↦ unreadAt area s ∷ r
 abbrev pub readStack : ℕ → List ℕ → ℕ → ℕ → List (Entry Span) → List (Entry Span)
 readStack zero area s e below = below
 readStack (suc fuel) area s e below =
-    elim (ltb s e) [ true ↦ readStack fuel area (s + slotWord area s 2) e (entryAt area s ∷ below) | false ↦ below ]
+    elim (ltb s e) [ true ↦ readStack fuel area (s + slotWord area s 2) e (stackEntryAt area s ∷ below) | false ↦ below ]
 
 abbrev pub statusOf : ℕ → Status
 statusOf w =

@@ -18,8 +18,9 @@ use Rattle.language.specs.Reports.{reportWords}
 use Rattle.machine.specs.Entries.{Unread, terminalAt, nonterminalAt, Entry, symbol, unmarked, stackSymbols}
 use Rattle.machine.specs.Chunks.{Chunk}
 use Rattle.machine.specs.States.{State, live}
+use Rattle.machine.specs.Starts.{symbolsAlong}
 use Rattle.area.specs.Layout.{need, more, size, block, markWord, stackSize, stackWords, unreadSize, unreadWords, chunkSize, chunkWords, row, total, rows, slots, encode}
-use Rattle.area.specs.Kept.{Lies, first-end, last-end, within, Tiles, tiled, tile, symbolsOf, Kept}
+use Rattle.area.specs.Kept.{Lies, first-end, last-end, within, Tiles, tiled, tile, Kept}
 
 -- ---- a chunk's words
 
@@ -83,18 +84,23 @@ pub unread-append : (xs ys : List (Unread Span)) → unreadSize (xs ++ ys) ≡ u
 unread-append [] ys = omega arith
 unread-append (x ∷ xs) ys = omega (arith, unread-append xs ys)
 
+-- every symbol takes a slot
+pub no-slots : (xs : List (Unread Span)) → unreadSize xs ≡ 0 → xs ≡ []
+no-slots [] h = refl
+no-slots (x ∷ xs) h = absurd (omega arith)
+
 pub stack-size : (stack : List (Entry Span)) → unreadSize (stackSymbols stack) ≡ stackSize stack
 stack-size [] = refl
 stack-size (e ∷ stack) = omega (arith, unread-append (stackSymbols stack) (unmarked e ∷ []), stack-size stack)
 
-pub symbols-size : (chunks : List (Option (Chunk Span))) → unreadSize (symbolsOf (live chunks)) ≡ total chunks
+pub symbols-size : (chunks : List (Option (Chunk Span))) → unreadSize (symbolsAlong (live chunks)) ≡ total chunks
 symbols-size [] = refl
 symbols-size (none ∷ chunks) = omega (arith, symbols-size chunks)
 symbols-size (some c ∷ chunks) =
     omega (
       arith,
-      unread-append (stackSymbols (c .stack)) (c .unread ++ symbolsOf (live chunks)),
-      unread-append (c .unread) (symbolsOf (live chunks)),
+      unread-append (stackSymbols (c .stack)) (c .unread ++ symbolsAlong (live chunks)),
+      unread-append (c .unread) (symbolsAlong (live chunks)),
       stack-size (c .stack),
       symbols-size chunks,
     )

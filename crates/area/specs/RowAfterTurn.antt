@@ -3,7 +3,7 @@
 -- Document 01, "Moves of a chunk", rules 1 to 6 and "Joining chunk c ..".
 -- Rests on Kept, RowCounts and WordsOfShape, and on machine's Schedules, AllowedExactly, RunsEnd and TableOf.
 --
--- Main definition: RowThen. Main statement: row-then.
+-- Main definitions: RowThen, FirstNotEnd. Main statements: row-then, handle-first.
 use mathlib.Core.Path.{_≡_, refl, sym, ap, _∙_}
 use mathlib.Core.Bool.{Bool, true}
 use mathlib.Core.List.{List, [], _∷_, _++_, append-assoc, append-nil, map}
@@ -19,15 +19,16 @@ use Rattle.language.specs.Words.{countN}
 use Rattle.machine.specs.Entries.{Unread, terminalAt, nonterminalAt, Entry, terminalOn, nonterminalOn, symbol, valueOf, stackSymbols}
 use Rattle.machine.specs.Moves.{Table, reads, replaces, Moved, by-rule-1, by-rule-2, by-rule-4-yields, by-rule-4-equal, by-rule-4-last, by-rule-5, by-rule-6, moved}
 use Rattle.machine.specs.Chunks.{Chunk}
+use Rattle.machine.specs.Starts.{symbolsAlong}
 use Rattle.machine.specs.Spans.{spanOf}
 use Rattle.machine.specs.TableOf.{tableOf}
 use Rattle.machine.specs.RunsEnd.{MarksFine, fine-nonterminal, fine-unmarked, fine-marked}
 use Rattle.machine.specs.Bounded.{AllFine, all-fine-cons}
 use Rattle.machine.specs.Allowed.{runs, HandleAbove, from-nonterminal, from-mark, up-to-unmarked, up-to-nonterminal, EndAndAxiom, end-and-axiom}
-use Rattle.machine.specs.AllowedExactly.{HandleView, a-handle, handle-view, whole-from}
+use Rattle.machine.specs.AllowedExactly.{handle-symbols, HandleView, a-handle, handle-view, whole-from}
 use Rattle.machine.specs.Schedules.{firstStack, has-read, has-replaced, got-stuck, Changed, moves-one, joins-two, further}
 use Rattle.area.specs.Shape.{ruleA}
-use Rattle.area.specs.Kept.{symbolsOf, LastHolds, holds, later-holds}
+use Rattle.area.specs.Kept.{LastHolds, holds, later-holds}
 use Rattle.area.specs.RowCounts.{length-of-row, holds-some, no-symbol}
 use Rattle.area.specs.WordsOfShape.{left-sides-fit}
 
@@ -37,50 +38,41 @@ pub data Alone : List (Chunk Span) → Type 0 where
 
 -- a row's symbols before and after, of a grammar with that many nonterminals
 pub data RowThen (nonterminals : ℕ) (chunks chunks′ : List (Chunk Span)) : Type 0 where
-  same-symbols : symbolsOf chunks′ ≡ symbolsOf chunks → RowThen nonterminals chunks chunks′
+  same-symbols : symbolsAlong chunks′ ≡ symbolsAlong chunks → RowThen nonterminals chunks chunks′
   -- a handle, which does not start with #, and the unread b after it
   handle-replaced : (k : ℕ) (before : List (Unread Span)) (x : Unread Span) (xs : List (Unread Span)) (b : Unread Span) (after : List (Unread Span))
       → k < nonterminals → (symbol x ≡ terminal 0 → ⊥)
-      → symbolsOf chunks ≡ before ++ (x ∷ (xs ++ (b ∷ after)))
-      → symbolsOf chunks′ ≡ before ++ (nonterminalAt k (spanOf (valueOf x ∷ map valueOf xs)) ∷ b ∷ after)
+      → symbolsAlong chunks ≡ before ++ (x ∷ (xs ++ (b ∷ after)))
+      → symbolsAlong chunks′ ≡ before ++ (nonterminalAt k (spanOf (valueOf x ∷ map valueOf xs)) ∷ b ∷ after)
       → RowThen nonterminals chunks chunks′
   -- the # of the end, after # and one symbol; where these are the whole row, one chunk is left, and it has read all
   end-read : (before : List (Unread Span)) (x d y : Unread Span) (after : List (Unread Span))
       → symbol x ≡ terminal 0 → symbol y ≡ terminal 0
-      → symbolsOf chunks ≡ before ++ (x ∷ d ∷ y ∷ after)
-      → symbolsOf chunks′ ≡ before ++ (x ∷ d ∷ after)
+      → symbolsAlong chunks ≡ before ++ (x ∷ d ∷ y ∷ after)
+      → symbolsAlong chunks′ ≡ before ++ (x ∷ d ∷ after)
       → (0 < length (firstStack chunks) → LastHolds chunks → before ≡ [] → after ≡ [] → Alone chunks′)
       → RowThen nonterminals chunks chunks′
 
 -- ---- handles
 
--- a handle is the top part of its stack
-handle-on-top : {stack handle below : List (Entry Span)} → HandleAbove stack handle below → stackSymbols stack ≡ stackSymbols below ++ stackSymbols handle
-handle-on-top (from-nonterminal {a = a} {k = k} {v = v} {w = w} {below = below}) =
-    append-assoc (stackSymbols below) (nonterminalAt k w ∷ []) (terminalAt a v ∷ [])
-handle-on-top (from-mark h) = refl
-handle-on-top (up-to-unmarked {a = a} {v = v} {handle = handle} {below = below} h) =
-    ap (λ s. s ++ (terminalAt a v ∷ [])) (handle-on-top h) ∙ append-assoc (stackSymbols below) (stackSymbols handle) (terminalAt a v ∷ [])
-handle-on-top (up-to-nonterminal {k = k} {v = v} {handle = handle} {below = below} h) =
-    ap (λ s. s ++ (nonterminalAt k v ∷ [])) (handle-on-top h) ∙ append-assoc (stackSymbols below) (stackSymbols handle) (nonterminalAt k v ∷ [])
+-- there is a first symbol, and it is not #
+pub record FirstNotEnd (symbols : List (Unread Span)) : Type 0 where
+  pub first : Unread Span
+  pub others : List (Unread Span)
+  pub are : symbols ≡ first ∷ others
+  pub not-end : symbol first ≡ terminal 0 → ⊥
 
--- its first symbol is not #, where no mark stands on a #
-record Starts (symbols : List (Unread Span)) : Type 0 where
-  first : Unread Span
-  others : List (Unread Span)
-  are : symbols ≡ first ∷ others
-  not-end : symbol first ≡ terminal 0 → ⊥
-
-starts : {stack handle below : List (Entry Span)} → HandleAbove stack handle below → MarksFine stack → Starts (stackSymbols handle)
-starts (from-nonterminal {a = a} {k = k} {v = v} {w = w}) o =
+-- so it is with a handle, where no mark stands on a #
+pub handle-first : {stack handle below : List (Entry Span)} → HandleAbove stack handle below → MarksFine stack → FirstNotEnd (stackSymbols handle)
+handle-first (from-nonterminal {a = a} {k = k} {v = v} {w = w}) o =
     record { first = nonterminalAt k w; others = terminalAt a v ∷ []; are = refl; not-end = λ c. let z : _≡_ {A = ℕ} 0 1 = cc in omega arith }
-starts (from-mark {a = a} {v = v} h) (fine-marked i o) =
+handle-first (from-mark {a = a} {v = v} h) (fine-marked i o) =
     record { first = terminalAt a v; others = []; are = refl; not-end = λ c. let z : a ≡ 0 = cc in eqb-false a 0 i z }
-starts (up-to-unmarked {a = a} {v = v} h) (fine-unmarked o) =
-    let s = starts h o in
+handle-first (up-to-unmarked {a = a} {v = v} h) (fine-unmarked o) =
+    let s = handle-first h o in
     record { first = s .first; others = s .others ++ (terminalAt a v ∷ []); are = ap (λ l. l ++ (terminalAt a v ∷ [])) (s .are); not-end = s .not-end }
-starts (up-to-nonterminal {k = k} {v = v} h) (fine-nonterminal o) =
-    let s = starts h o in
+handle-first (up-to-nonterminal {k = k} {v = v} h) (fine-nonterminal o) =
+    let s = handle-first h o in
     record { first = s .first; others = s .others ++ (nonterminalAt k v ∷ []); are = ap (λ l. l ++ (nonterminalAt k v ∷ [])) (s .are); not-end = s .not-end }
 
 -- ---- moves and joins
@@ -94,24 +86,24 @@ module _ (words bytes : List ℕ) (rule-a : ruleA words ≡ true) where
 
   put-on : {mark : Bool} (stack : List (Entry Span)) (b : ℕ) (v : Span) (unread : List (Unread Span)) (chunks : List (Chunk Span))
       → RowThen N (runs stack (terminalAt b v ∷ unread) ∷ chunks) (runs (terminalOn mark b v ∷ stack) unread ∷ chunks)
-  put-on stack b v unread chunks = same-symbols (append-assoc (stackSymbols stack) (terminalAt b v ∷ []) (unread ++ symbolsOf chunks))
+  put-on stack b v unread chunks = same-symbols (append-assoc (stackSymbols stack) (terminalAt b v ∷ []) (unread ++ symbolsAlong chunks))
 
   -- "if the stack is # and an axiom read #"
   accepting : {stack : List (Entry Span)} {b : ℕ} → EndAndAxiom table stack → b ≡ 0 → (v : Span) (unread : List (Unread Span)) (chunks : List (Chunk Span))
       → RowThen N (runs stack (terminalAt b v ∷ unread) ∷ chunks) (runs stack unread ∷ chunks)
   accepting {b = b} (end-and-axiom {mark = mark} {k = k} {v = u} {w = w} h) e v unread chunks =
-      end-read [] (terminalAt 0 w) (nonterminalAt k u) (terminalAt b v) (unread ++ symbolsOf chunks) refl (ap terminal e) refl refl (λ l. only)
+      end-read [] (terminalAt 0 w) (nonterminalAt k u) (terminalAt b v) (unread ++ symbolsAlong chunks) refl (ap terminal e) refl refl (λ l. only)
     where
-      only : {stack stack′ : List (Entry Span)} {more : List (Unread Span)} {chunks : List (Chunk Span)} → LastHolds (runs stack more ∷ chunks) → _≡_ {A = List (Unread Span)} [] [] → unread ++ symbolsOf chunks ≡ []
-          → Alone (runs stack′ unread ∷ chunks)
+      only : {stack stack′ : List (Entry Span)} {more : List (Unread Span)} {chunks : List (Chunk Span)} → LastHolds (runs stack more ∷ chunks)
+          → _≡_ {A = List (Unread Span)} [] [] → unread ++ symbolsAlong chunks ≡ [] → Alone (runs stack′ unread ∷ chunks)
       only (holds l) p q = alone (no-symbol unread (omega (arith, ap length q, length-append unread [])))
-      only (later-holds {chunks = chunks} l) p q = absurd (omega (arith, holds-some l, ap length q, length-append unread (symbolsOf chunks)))
+      only (later-holds {chunks = chunks} l) p q = absurd (omega (arith, holds-some l, ap length q, length-append unread (symbolsAlong chunks)))
 
   reading-row : {stack stack′ : List (Entry Span)} {b : Unread Span} → Moved table stack b (reads stack′)
       → (unread : List (Unread Span)) (chunks : List (Chunk Span))
       → RowThen N (runs stack (b ∷ unread) ∷ chunks) (runs stack′ unread ∷ chunks)
   reading-row {stack} (by-rule-1 {k = k} {v = v} h) unread chunks =
-      same-symbols (append-assoc (stackSymbols stack) (nonterminalAt k v ∷ []) (unread ++ symbolsOf chunks))
+      same-symbols (append-assoc (stackSymbols stack) (nonterminalAt k v ∷ []) (unread ++ symbolsAlong chunks))
   reading-row {stack} (by-rule-2 {b = b} {v = v} t) unread chunks = put-on stack b v unread chunks
   reading-row {stack} (by-rule-4-yields {b = b} {v = v} t r) unread chunks = put-on stack b v unread chunks
   reading-row {stack} (by-rule-4-equal {b = b} {v = v} t r i) unread chunks = put-on stack b v unread chunks
@@ -125,17 +117,17 @@ module _ (words bytes : List ℕ) (rule-a : ruleA words ≡ true) where
   replacing-row {stack} o (by-rule-5 {b = b} {r = r} {v = v} found t k q m) unread chunks = go (rw q at (handle-view stack []))
     where
       rest : List (Unread Span)
-      rest = terminalAt b v ∷ (unread ++ symbolsOf chunks)
+      rest = terminalAt b v ∷ (unread ++ symbolsAlong chunks)
 
       go : HandleView stack [] (some found)
           → RowThen N (runs stack (terminalAt b v ∷ unread) ∷ chunks)
           (runs (nonterminalOn (table .leftSide r) (table .value r (map valueOf (found .symbols))) ∷ found .below) (terminalAt b v ∷ unread) ∷ chunks)
       go (a-handle {handle = handle} h p) =
-          let s = starts h o in
+          let s = handle-first h o in
           let are : found .symbols ≡ s .first ∷ s .others = sym p ∙ append-nil (stackSymbols handle) ∙ s .are in
-          handle-replaced (table .leftSide r) (stackSymbols (found .below)) (s .first) (s .others) (terminalAt b v) (unread ++ symbolsOf chunks)
+          handle-replaced (table .leftSide r) (stackSymbols (found .below)) (s .first) (s .others) (terminalAt b v) (unread ++ symbolsAlong chunks)
           (left-sides-fit words rule-a (map symbol (found .symbols)) m) (s .not-end)
-          (ap (λ symbols. symbols ++ rest) (handle-on-top h ∙ ap (λ symbols. stackSymbols (found .below) ++ symbols) (s .are))
+          (ap (λ symbols. symbols ++ rest) (handle-symbols h ∙ ap (λ symbols. stackSymbols (found .below) ++ symbols) (s .are))
           ∙ append-assoc (stackSymbols (found .below)) (s .first ∷ s .others) rest)
           (append-assoc (stackSymbols (found .below)) (nonterminalAt (table .leftSide r) (spanOf (map valueOf (found .symbols))) ∷ []) rest
           ∙ ap (λ symbols. stackSymbols (found .below) ++ (nonterminalAt (table .leftSide r) (spanOf (map valueOf symbols)) ∷ rest)) are)

@@ -24,7 +24,7 @@ use Rattle.machine.specs.Bounded.{unreadIn, symbolsIn, terminalsIn, runningIn, 
 use Rattle.area.specs.declared.shape.Walk.{Walk}
 use Rattle.area.specs.Layout.{stackSize, unreadSize, statusWord, total, rows, slots, zeros, encode}
 use Rattle.area.specs.Kept.{LastHolds, Ending, whole, accepted, FirstLive, first-live}
-use Rattle.area.specs.Lengths.{tiles-within}
+use Rattle.area.specs.Lengths.{no-slots, tiles-within}
 use Rattle.area.specs.Shape.{walkOf, firstFits, endFits, potentialOf, blank}
 use Rattle.area.specs.Walks.{AllFit, walk-passes, counted-all, status-word}
 use Rattle.area.specs.Chunkwise.{tiles-from, last-from}
@@ -99,10 +99,6 @@ none-size : (unread : List (Unread Span)) → length unread ≡ 0 → unreadSize
 none-size [] h = refl
 none-size (x ∷ unread) h = absurd (omega arith)
 
-size-none : (unread : List (Unread Span)) → unreadSize unread ≡ 0 → unread ≡ []
-size-none [] h = refl
-size-none (x ∷ unread) h = absurd (omega arith)
-
 either-true : (b : Bool) {x : Bool} → x ≡ true → pick b true x ≡ true
 either-true true h = refl
 either-true false h = h
@@ -157,7 +153,7 @@ module _ (n moves : ℕ) (reductions : List (Reduction Span)) (rest : List ℕ) 
           let e : total all ≡ n + 1 = sym (k .at-is) ∙ eqb-true (w .at) (n + 1) (es .0) in
           let l : length (live all) ≡ 1 = sym (k .live-is) ∙ eqb-true (w .live) 1 (es .1 .0) in
           let head-is : 0 + stackSize (c .stack) ≡ n + 1 = eqb-true (0 + stackSize (c .stack)) (n + 1) (es .1 .1 .0) in
-          rw e (accepted-of n c (live chunks) (omega arith) (size-none (c .unread) (omega arith)))
+          rw e (accepted-of n c (live chunks) (omega arith) (no-slots (c .unread) (omega arith)))
 
 -- ---- (k) zeros
 

@@ -11,20 +11,22 @@ use Prim.Native.Nat.{ℕ, _+_, _≤_, _<_}
 use native.Mathlib.Omega.{arith}
 use lib.ListN.{length, getD, length-append}
 use Rattle.language.specs.Trees.{Span, Reduction}
-use Rattle.machine.specs.Entries.{Unread, Entry, stackSymbols, topTerminal}
-use Rattle.machine.specs.Moves.{Table, Stuck, noRule, reads, sticks, Moved, by-rule-1, by-rule-1-stuck, by-rule-2, by-rule-3, by-rule-4-yields, by-rule-4-equal, by-rule-4-last, by-rule-4-stuck, by-rule-5-stuck, by-rule-6, moved}
+use Rattle.machine.specs.Entries.{Unread, Entry, stackSymbols}
+use Rattle.machine.specs.Moves.{Table, Stuck, noRule, sticks, Moved, by-rule-1-stuck, by-rule-3, by-rule-4-stuck, by-rule-5-stuck, moved}
 use Rattle.machine.specs.Laws.{EndMark}
 use Rattle.machine.specs.Chunks.{Chunk, joined}
 use Rattle.machine.specs.States.{State, live}
+use Rattle.machine.specs.Starts.{symbolsAlong}
 use Rattle.machine.specs.RunsEnd.{terminals-cons, on-reading, on-replacing}
-use Rattle.machine.specs.Bounded.{terminalsIn, AllFine, all-fine-cons}
+use Rattle.machine.specs.Bounded.{terminalsIn, terminals-append, terminals-of-stack, length-of-stack, reading-fills, AllFine, all-fine-cons}
 use Rattle.machine.specs.Allowed.{HandleAbove, from-nonterminal, from-mark, up-to-unmarked, up-to-nonterminal, Steps, JoinsAt}
 use Rattle.machine.specs.AllowedExactly.{HandleView, a-handle, handle-view, step-exactly, join-exactly}
 use Rattle.machine.specs.Schedules.{IsLive, firstStack, Turned, by-step, by-join, Made, has-read, has-replaced, got-stuck, Changed, moves-one, joins-two, further}
 use Rattle.area.specs.Layout.{marks}
-use Rattle.area.specs.Kept.{Tiles, AllInRange, in-range, symbolsOf, LastHolds, holds, later-holds, Ending, whole, accepted, StuckFine, not-stuck, stuck-fine, AllStuckFine, and-chunk, FirstLive, first-live}
+use Rattle.area.specs.Kept.{Tiles, AllInRange, in-range, LastHolds, holds, later-holds, Ending, whole, accepted, StuckFine}
+use Rattle.area.specs.Kept.{not-stuck, stuck-fine, AllStuckFine, and-chunk, FirstLive, first-live}
 use Rattle.area.specs.Tiling.{tiles-split, tiles-join, ranged-split, ranged-join, tiles-replaced, end-is-last}
-use Rattle.area.specs.RowCounts.{length-of-stack, no-symbol, terminals-append, terminals-of-stack}
+use Rattle.area.specs.RowCounts.{no-symbol}
 use Rattle.area.specs.RowAfterTurn.{Alone, alone, RowThen, same-symbols, handle-replaced, end-read}
 
 -- ---- as many numbers, live and gone
@@ -62,10 +64,6 @@ module _ {table : Table Span} where
 
 -- ---- (e) the last chunk holds a symbol
 
-top-some : (stack : List (Entry Span)) {a : ℕ} → topTerminal stack ≡ some a → 0 < length stack
-top-some [] q = let z : _≡_ {A = ℕ} 0 1 = cc in absurd (omega arith)
-top-some (e ∷ stack) q = omega arith
-
 joined-holds : (c d : Chunk Span) → 0 < length (d .stack) + length (d .unread) → 0 < length (c .stack) + length (joined c d .unread)
 joined-holds c d l =
     omega (
@@ -76,16 +74,8 @@ joined-holds c d l =
     )
 
 module _ {table : Table Span} where
-  reading-some : {stack stack′ : List (Entry Span)} {b : Unread Span} → Moved table stack b (reads stack′) → 0 < length stack′
-  reading-some (by-rule-1 h) = omega arith
-  reading-some (by-rule-2 t) = omega arith
-  reading-some (by-rule-4-yields t r) = omega arith
-  reading-some (by-rule-4-equal t r i) = omega arith
-  reading-some {stack} (by-rule-4-last t r i w) = top-some stack t
-  reading-some (by-rule-6 t r q) = omega arith
-
   made-holds : {c c′ : Chunk Span} {made : List (Reduction Span)} → Made table c made c′ → 0 < length (c′ .stack) + length (c′ .unread)
-  made-holds (has-read {stack = stack} b h) = let l = reading-some (rw h at (moved table stack b)) in omega arith
+  made-holds (has-read {stack = stack} b h) = let l = reading-fills (rw h at (moved table stack b)) in omega arith
   made-holds (has-replaced b h) = omega arith
   made-holds (got-stuck b h) = omega arith
 
@@ -111,11 +101,12 @@ module _ {table : Table Span} where
 
 -- ---- (h) stuck chunks
 
-marked : {stack handle below : List (Entry Span)} → HandleAbove stack handle below → 0 < marks stack
-marked from-nonterminal = omega arith
-marked (from-mark h) = omega arith
-marked (up-to-unmarked h) = omega (arith, marked h)
-marked (up-to-nonterminal h) = omega (arith, marked h)
+-- a handle starts at a mark
+some-marks : {stack handle below : List (Entry Span)} → HandleAbove stack handle below → 0 < marks stack
+some-marks from-nonterminal = omega arith
+some-marks (from-mark h) = omega arith
+some-marks (up-to-unmarked h) = omega (arith, some-marks h)
+some-marks (up-to-nonterminal h) = omega (arith, some-marks h)
 
 joined-fine : (c d : Chunk Span) → StuckFine c → StuckFine (joined c d)
 joined-fine c d (not-stuck q) = not-stuck q
@@ -130,7 +121,7 @@ module _ {table : Table Span} where
   no-rule-marked {stack} (by-rule-5-stuck found t r h m) q = go (rw h at (handle-view stack []))
     where
       go : HandleView stack [] (some found) → 0 < marks stack
-      go (a-handle k p) = marked k
+      go (a-handle k p) = some-marks k
 
   made-fine : {c c′ : Chunk Span} {made : List (Reduction Span)} → Made table c made c′ → StuckFine c′
   made-fine (has-read b h) = not-stuck refl
@@ -165,17 +156,17 @@ module _ {table : Table Span} (ends : EndMark table) where
 -- ---- (e) and (f) the row's symbols on its slots
 
 -- where the last live chunk ends, and the symbols up to there
-pub record Stands (n : ℕ) (chunks : List (Chunk Span)) : Type 0 where
+pub record RowStands (n : ℕ) (chunks : List (Chunk Span)) : Type 0 where
   pub end : ℕ
   pub ending : Ending n chunks end
-  pub tiles : Tiles n 0 (symbolsOf chunks) end
+  pub tiles : Tiles n 0 (symbolsAlong chunks) end
 
 ending-alone : {n : ℕ} {chunks : List (Chunk Span)} → Alone chunks → Ending n chunks (n + 1)
 ending-alone (alone q) = accepted q
 
 module _ {N : ℕ} {chunks chunks′ : List (Chunk Span)} where
-  pub stands : {n : ℕ} → 0 < length (firstStack chunks) → LastHolds chunks → LastHolds chunks′ → RowThen N chunks chunks′ → Tiles n 0 (symbolsOf chunks) (n + 2)
-      → Stands n chunks′
+  pub stands : {n : ℕ} → 0 < length (firstStack chunks) → LastHolds chunks → LastHolds chunks′ → RowThen N chunks chunks′ → Tiles n 0 (symbolsAlong chunks) (n + 2)
+      → RowStands n chunks′
   stands {n} l h h′ (same-symbols q) t = record { end = n + 2; ending = whole h′; tiles = rw q t }
   stands {n} l h h′ (handle-replaced k before x xs b after i ne q q′) t =
       let c = tiles-split before (x ∷ (xs ++ (b ∷ after))) (rw q at t) in
@@ -184,7 +175,7 @@ module _ {N : ℕ} {chunks chunks′ : List (Chunk Span)} where
       let r = end-is-last before after x d y hx hy (rw q at t) in
       record { end = n + 1; ending = ending-alone (only l h (r .no-before) (r .no-after)); tiles = rw (q′, r .no-before, r .no-after) (r .tiles) }
 
-  pub ranged-kept : {t : ℕ} → RowThen N chunks chunks′ → AllInRange t N (symbolsOf chunks) → AllInRange t N (symbolsOf chunks′)
+  pub ranged-kept : {t : ℕ} → RowThen N chunks chunks′ → AllInRange t N (symbolsAlong chunks) → AllInRange t N (symbolsAlong chunks′)
   ranged-kept (same-symbols q) r = rw q r
   ranged-kept (handle-replaced k before x xs b after i ne q q′) r =
       let p = ranged-split before (x ∷ (xs ++ (b ∷ after))) (rw q at r) in

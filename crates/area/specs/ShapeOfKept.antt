@@ -23,7 +23,8 @@ use Rattle.area.specs.Kept.{FirstLive, first-live, Kept}
 use Rattle.area.specs.Lengths.{encode-length, total-is, within-slots}
 use Rattle.area.specs.Shape.{ruleC, walkOf, firstFits, endFits, ruleI, ruleJ, blank, ruleK, areaInShape}
 use Rattle.area.specs.Chunkwise.{kept-fits}
-use Rattle.area.specs.Encoded.{area, slotsFrom, fromSlots, fromUnusedSlots, fromMade, tokens-at, chunks-at, moves-at, count-at, table-at, slots-at, unused-slots-at, unused-made-at}
+use Rattle.area.specs.Encoded.{area, slotsFrom, fromSlots, fromUnusedSlots, fromMade, tokens-at, chunks-at, moves-at}
+use Rattle.area.specs.Encoded.{count-at, table-at, slots-at, unused-slots-at, unused-made-at}
 use Rattle.area.specs.Rules.{Counts, walk-counts, potential-is, first-to, end-to, blank-zeros}
 
 some-chunk : {chunks : List (Option (Chunk Span))} → FirstLive chunks → 1 ≤ length chunks

@@ -4,7 +4,7 @@
 -- t, N: how many terminals and nonterminals the grammar has; n: how many tokens the row has.
 -- Rests on Blocks.
 --
--- Main definitions: risingWords, Placed, Scanned, Holds. Main statements: scan-passes, scan-reads.
+-- Main definitions: risingWords, Placed, Scanned, HoldsEntries. Main statements: scan-passes, scan-reads.
 use mathlib.Core.Path.{_≡_, refl, sym, ap, _∙_}
 use mathlib.Core.Bool.{Bool, true, false, false≢true}
 use mathlib.Core.List.{List, [], _∷_, _++_, append-assoc}
@@ -20,9 +20,9 @@ use Rattle.machine.specs.Entries.{Entry, terminalOn, nonterminalOn, symbol, unm
 use Rattle.machine.specs.RunsEnd.{oneUnlessEnd, terminalsOn}
 use Rattle.area.specs.declared.shape.Scan.{Scan}
 use Rattle.area.specs.Layout.{more, size, block, markWord, stackSize, marks}
-use Rattle.area.specs.Kept.{InRange}
+use Rattle.area.specs.Kept.{SymbolInRange}
 use Rattle.area.specs.Shape.{tag, oneIfTerminal, scanSlot, scanned, freshScan, sideFits}
-use Rattle.area.specs.Blocks.{lastSlots, block-slots, Stands, word, Opening, tests-to-stands, passedOver, scan-block, SlotView, starts, goes-on, slot-view}
+use Rattle.area.specs.Blocks.{lastSlots, block-slots, EntryStands, word, Opening, tests-to-stands, passedOver, scan-block, SlotView, starts, goes-on, slot-view}
 
 -- entries from the bottom up, as their words stand
 abbrev pub risingWords : List (Entry Span) → List ℕ
@@ -32,7 +32,7 @@ risingWords (x ∷ entries) = block (markWord x) (unmarked x) ++ risingWords ent
 -- entries side by side on the slots from s up to e
 pub data Placed (t N n : ℕ) : ℕ → List (Entry Span) → ℕ → Type 0 where
   no-more : {s e : ℕ} → s ≡ e → Placed t N n s [] e
-  then-stands : {s e : ℕ} {x : Entry Span} {entries : List (Entry Span)} → Stands t N n s x → Placed t N n (s + size (unmarked x)) entries e
+  then-stands : {s e : ℕ} {x : Entry Span} {entries : List (Entry Span)} → EntryStands t N n s x → Placed t N n (s + size (unmarked x)) entries e
       → Placed t N n s (x ∷ entries) e
 
 pub placed-end : {t N n s e : ℕ} {entries : List (Entry Span)} → Placed t N n s entries e → e ≡ s + stackSize entries
@@ -60,7 +60,7 @@ pub record Scanned (entries : List (Entry Span)) (st : Scan) : Type 0 where
   pub terminals-are : st .terminals ≡ terminalsOn entries
   pub marks-are : st .marks ≡ marks entries
 
-terminal-count : (t N : ℕ) → t < 256 → (x : Entry Span) → InRange t N (symbol (unmarked x)) → (entries : List (Entry Span))
+terminal-count : (t N : ℕ) → t < 256 → (x : Entry Span) → SymbolInRange t N (symbol (unmarked x)) → (entries : List (Entry Span))
     → terminalsOn (x ∷ entries) ≡ oneIfTerminal (word x) + terminalsOn entries
 terminal-count t N few (terminalOn mark a v) r entries = rw (lt-ltb a 256 (omega arith)) (go (eqb a 0))
   where
@@ -165,13 +165,13 @@ read-all {t} {N} {n} (suc count) slot (s ∷ m ∷ l ∷ b ∷ words) st h e =
     read-more count s m l b words (slot-view t N n slot st s m l b (r .ok-now)) r
 
 -- the slots of a side, as entries in place
-pub record Holds (t N n from to : ℕ) (words : List ℕ) : Type 0 where
+pub record HoldsEntries (t N n from to : ℕ) (words : List ℕ) : Type 0 where
   pub entries : List (Entry Span)
   pub words-are : take (4 * stackSize entries) words ≡ risingWords entries
   pub placed : Placed t N n from entries to
 
 pub scan-reads : {t N n : ℕ} (from to : ℕ) (words : List ℕ) → from ≤ to → 4 * (to - from) ≤ length words
-    → sideFits (scanned t N n (to - from) from words freshScan) ≡ true → Holds t N n from to words
+    → sideFits (scanned t N n (to - from) from words freshScan) ≡ true → HoldsEntries t N n from to words
 scan-reads from to words h l e =
     let r = read-all (to - from) from words freshScan l e in
     let k : stackSize (r .entries) ≡ to - from = omega (arith, placed-end (r .placed)) in

@@ -2,7 +2,7 @@
 -- Document 01: "Start checks 15 .., 7, 8, 9, 10, 11"; the table's "first such place" and "63, else first bad cut's index".
 -- Rests on Start and StartKept, and on laws' Least.
 --
--- Main definitions: foundOf, Clear, badTokenAt, badCutAt, badCuts, Left, Writable.
+-- Main definitions: foundOf, badTokenAt, badCutAt, badCuts, Left, Writable.
 -- Main statements: found-at, found-nothing (what a search returns is what the definition finds), at-is, nothing-is (and back);
 -- all-left, passed, refused (the answer, check by check); writable, right-cuts (what holds where nothing is refused).
 use mathlib.Core.Path.{_≡_, refl, sym, ap, _∙_}
@@ -13,11 +13,11 @@ use Prim.Native.Nat.{ℕ, _+_, _≤_, _<_}
 use native.Mathlib.Numerals.{add-one}
 use native.Mathlib.Omega.{arith}
 use native.Mathlib.Decide.{decLt}
-use borrow.Author.Count.{below-more}
 use lib.Dec.{ltb}
 use lib.ListN.{length, getD, List·getD-eq-default}
-use Rattle.laws.specs.Least.{firstBelow, firstBelow-some, firstBelow-none}
-use Rattle.laws.specs.Tests.{not-both, lt-ltb, le-ltb}
+use Rattle.laws.specs.Least.{firstBelow, first-at, first-nowhere}
+pub use Rattle.laws.specs.Least.{Clear, clear-more}
+use Rattle.laws.specs.Tests.{lt-ltb, le-ltb}
 use Rattle.language.specs.declared.Answer.{Answer}
 use Rattle.language.specs.declared.Answer.the-variants.{Done, Refused}
 use Rattle.language.specs.Words.{outside}
@@ -27,7 +27,8 @@ use Rattle.area.specs.declared.begin.Found.{Found}
 use Rattle.area.specs.declared.begin.Found.the-variants.{At, Nothing}
 use Rattle.area.specs.Layout.{need}
 use Rattle.area.specs.Shape.{grammarInShape}
-use Rattle.area.specs.Start.{StartInput, failing, shapeStage, emptyStage, lengthStage, tokenStage, cutStage, roomStage, startAnswer, cutFalls, no-room, Startable, starts-exactly}
+use Rattle.area.specs.Start.{StartInput, failing, shapeStage, emptyStage, lengthStage, tokenStage, cutStage, roomStage}
+use Rattle.area.specs.Start.{startAnswer, cutFalls, no-room, Startable, starts-exactly}
 use Rattle.area.specs.StartKept.{GoodCuts, few-tokens, few-cuts, cut-within, cuts-good}
 
 -- what a search finds, as the code says it
@@ -45,20 +46,12 @@ nothing-is (some u) e = let z : _≡_ {A = ℕ} 0 1 = cc in absurd (omega arith)
 
 -- ---- a search from the front
 
--- the test passes nowhere below i
-abbrev pub Clear : (ℕ → Bool) → ℕ → Type 0
-Clear test i = (k : ℕ) → k < i → test k ≡ false
-
 module _ (test : ℕ → Bool) where
-  pub clear-more : (i : ℕ) → Clear test i → test i ≡ false → Clear test (i + 1)
-  clear-more = below-more (λ k. test k ≡ false)
-
   pub found-at : (n i : ℕ) → i < n → Clear test i → test i ≡ true → At i ≡ foundOf (firstBelow test n)
-  found-at n i h clear e =
-      ap foundOf (sym (firstBelow-some test n i .1 (record { holds = (h, e); least = λ u l p. not-both (test u) (p .1) (clear u l) })))
+  found-at n i h clear e = ap foundOf (sym (first-at test n i h clear e))
 
   pub found-nothing : (n i : ℕ) → n ≤ i → Clear test i → Nothing ≡ foundOf (firstBelow test n)
-  found-nothing n i h clear = ap foundOf (sym (firstBelow-none test n .1 (λ k l. clear k (omega arith))))
+  found-nothing n i h clear = ap foundOf (sym (first-nowhere test n i h clear))
 
 -- 9: a token outside 1..t
 abbrev pub badTokenAt : ℕ → List ℕ → ℕ → Bool

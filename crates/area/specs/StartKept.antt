@@ -3,26 +3,26 @@
 -- on its stack, others with nothing. The last chunk reads # after its tokens"; the table's 7, 8, 9 and 10.
 -- Rests on Kept, RowCounts and Start, and on machine's Starts and Bounded.
 --
--- Main definitions: GoodTokens, GoodCuts. Main statements: start-kept; few-tokens, few-cuts, cut-within, cuts-good, startable-kept.
+-- Main definitions: GoodTokens, GoodCuts. Main statements: start-kept; few-tokens, no-end, few-cuts, cut-within, cuts-good, startable-kept.
 use mathlib.Core.Path.{_≡_, refl, ap}
 use mathlib.Core.Bool.{Bool, true, false}
-use mathlib.Core.List.{List, [], _∷_, _++_, map}
+use mathlib.Core.List.{List, [], _∷_, map}
 use Prim.Native.Nat.{ℕ, zero, suc, _+_, _-_, _≤_, _<_}
 use native.Mathlib.Omega.{arith}
-use native.Mathlib.Decide.{decLe}
 use lib.Dec.{eqb}
 use lib.ListN.{length, getD, drop, length-drop}
-use Rattle.laws.specs.Tests.{ne-eqb}
+use Rattle.laws.specs.Tests.{ne-eqb, le-unless}
 use Rattle.language.specs.Symbols.{terminal}
 use Rattle.language.specs.Trees.{Span}
 use Rattle.language.specs.Words.{countT, too-low, too-high}
 use Rattle.machine.specs.Entries.{Unread, terminalAt}
 use Rattle.machine.specs.States.{live, unreadFrom, pieces, startChunk, start}
-use Rattle.machine.specs.Starts.{NoEnd, together, bottom, laterChunk, begun}
+use Rattle.machine.specs.Starts.{NoEnd, bottom, laterChunk, symbolsAlong, later-symbols, row-length, begun}
 use Rattle.machine.specs.RunsEnd.{oneUnlessEnd, terminalsUnread}
 use Rattle.machine.specs.Bounded.{falls-start, potential-start}
 use Rattle.area.specs.Layout.{size}
-use Rattle.area.specs.Kept.{Lies, first-end, last-end, within, Tiles, tiled, tile, AllInRange, none-left, in-range, symbolsOf, LastHolds, holds, later-holds, whole, not-stuck, AllStuckFine, no-chunk, and-chunk, FirstLive, first-live, Kept}
+use Rattle.area.specs.Kept.{Lies, first-end, last-end, within, Tiles, tiled, tile, AllInRange, none-left, in-range, LastHolds, holds, later-holds}
+use Rattle.area.specs.Kept.{whole, not-stuck, AllStuckFine, no-chunk, and-chunk, FirstLive, first-live, Kept}
 use Rattle.area.specs.RowCounts.{terminals-of-row}
 use Rattle.area.specs.Start.{StartInput, no-tokens, too-many, wrong-token, too-many-cuts, cut-above, cut-below, Startable}
 
@@ -57,12 +57,8 @@ token-lies {n} i a h =
 end-lies : {n : ℕ} (i : ℕ) → i ≡ n → Lies n (i + 1) (endAt i)
 end-lies {n} i e = let f : i ≡ i + 1 - 1 = omega arith in last-end (omega arith) refl (λ k. record { first = f k; after = f k })
 
-later-symbols : (pieces : List (List (Unread Span))) → symbolsOf (map laterChunk pieces) ≡ together pieces
-later-symbols [] = refl
-later-symbols (piece ∷ pieces) = ap (λ row. piece ++ row) (later-symbols pieces)
-
 -- # and then the row
-start-symbols : (tokens cuts : List ℕ) → symbolsOf (live (start tokens cuts .chunks)) ≡ endAt 0 ∷ unreadFrom 0 tokens
+start-symbols : (tokens cuts : List ℕ) → symbolsAlong (live (start tokens cuts .chunks)) ≡ endAt 0 ∷ unreadFrom 0 tokens
 start-symbols tokens cuts =
     let b = begun tokens cuts in
     rw (b .chunks, later-symbols (b .rest), b .row)
@@ -87,9 +83,9 @@ terminals-at-most : (i : ℕ) (tokens : List ℕ) → terminalsUnread (unreadFro
 terminals-at-most i [] = omega arith
 terminals-at-most i (a ∷ tokens) = omega (arith, one-at-most (eqb a 0), terminals-at-most (suc i) tokens)
 
-no-end : {t : ℕ} {tokens : List ℕ} → GoodTokens t tokens → NoEnd tokens
-no-end no-token = tt
-no-end (token {a = a} p q g) = (ne-eqb a 0 (λ e. omega arith), no-end g)
+good-no-end : {t : ℕ} {tokens : List ℕ} → GoodTokens t tokens → NoEnd tokens
+good-no-end no-token = tt
+good-no-end (token {a = a} p q g) = (ne-eqb a 0 (λ e. omega arith), good-no-end g)
 
 -- ---- the chunks of a start
 
@@ -110,10 +106,6 @@ last-piece : {n : ℕ} {from : ℕ} {cuts : List ℕ} (row : List (Unread Span))
     → LastHolds (live (map (startChunk []) (pieces from cuts row)))
 last-piece row no-cut l e = let z : 0 < 0 + length row = omega arith in holds z
 last-piece {from = from} row (next-cut {cut = cut} p q g) l e = later-holds (last-piece (drop (cut - from) row) g q (omega (arith, length-drop (cut - from) row)))
-
-row-length : (i : ℕ) (tokens : List ℕ) → length (unreadFrom i tokens) ≡ suc (length tokens)
-row-length i [] = refl
-row-length i (a ∷ tokens) = ap suc (row-length (suc i) tokens)
 
 start-holds : (tokens : List ℕ) {cuts : List ℕ} → GoodCuts (length tokens) 0 cuts → LastHolds (live (start tokens cuts .chunks))
 start-holds tokens no-cut = let z : 0 < 1 + length (unreadFrom 0 tokens) = omega arith in holds z
@@ -144,7 +136,7 @@ start-kept {t} {N} tokens cuts some few good cut-well few-cuts =
       fine = falls-start tokens cuts .fine;
       stuck-fine = start-fine tokens cuts;
       room = omega (arith, terminals-of-row (live (start tokens cuts .chunks)), ap terminalsUnread (start-symbols tokens cuts), terminals-at-most 0 tokens);
-      bounded = rw number (omega (arith, potential-start tokens cuts (no-end good)));
+      bounded = rw number (omega (arith, potential-start tokens cuts (good-no-end good)));
     }
 
 -- ---- a row that can start
@@ -161,13 +153,6 @@ good-cuts : {n : ℕ} (from : ℕ) (cuts : List ℕ) → (0 < length cuts → fr
 good-cuts from [] h low up = no-cut
 good-cuts from (cut ∷ cuts) h low up =
     next-cut (h (omega arith)) (low 0 (omega arith)) (good-cuts cut cuts (λ l. up 0 (omega arith)) (λ i l. low (suc i) (omega arith)) (λ i l. up (suc i) (omega arith)))
-
-le-unless : (a b : ℕ) → (b < a → ⊥) → a ≤ b
-le-unless a b h = go (decLe a b)
-  where
-    go : Dec (a ≤ b) → a ≤ b
-    go (yes l) = l
-    go (no l) = absurd (h (omega arith))
 
 module _ {input : StartInput} (can : Startable input) where
   abbrev tokens : List ℕ
@@ -190,6 +175,10 @@ module _ {input : StartInput} (can : Startable input) where
     le-unless 1 (getD tokens i 0) (λ h. can .right-tokens i (wrong-token l (too-low h))),
     le-unless (getD tokens i 0) (countT (input .words)) (λ h. can .right-tokens i (wrong-token l (too-high h))),
   )
+
+  -- no token is #
+  pub no-end : NoEnd tokens
+  no-end = good-no-end (good-tokens tokens right-token)
 
   pub few-cuts : length cuts ≤ 63
   few-cuts = le-unless (length cuts) 63 (λ h. can .right-cuts 63 (too-many-cuts h))

@@ -12,11 +12,12 @@ use mathlib.Core.Option.{Option}
 use Prim.Native.Nat.{ℕ, zero, suc, _+_, _*_, _-_, _≤_}
 use native.Mathlib.Omega.{arith}
 use lib.ListN.{length, take, drop, length-append, length-replicate, length-drop}
+use Rattle.laws.specs.Parts.{flat}
 use Rattle.language.specs.Trees.{Span}
 use Rattle.machine.specs.Entries.{Unread, terminalAt}
 use Rattle.machine.specs.Chunks.{Chunk}
 use Rattle.machine.specs.States.{unreadFrom, pieces, startChunk, startChunks, start}
-use Rattle.machine.specs.Starts.{together, pieces-together}
+use Rattle.machine.specs.Starts.{pieces-together}
 use Rattle.area.specs.Layout.{need, more, block, unreadSize, unreadWords, total, rows, slots, zeros, encode}
 use Rattle.area.specs.Lengths.{length-rows, length-slots}
 use Rattle.area.specs.StartKept.{GoodCuts, no-cut, next-cut}
@@ -93,16 +94,16 @@ unread-words : (i : ℕ) (tokens : List ℕ) → unreadWords (unreadFrom i token
 unread-words i [] = rw end-block
 unread-words i (a ∷ tokens) = rw (token-block a i, unread-words (suc i) tokens)
 
-words-append : (xs ys : List (Unread Span)) → unreadWords (xs ++ ys) ≡ unreadWords xs ++ unreadWords ys
+pub words-append : (xs ys : List (Unread Span)) → unreadWords (xs ++ ys) ≡ unreadWords xs ++ unreadWords ys
 words-append [] ys = refl
 words-append (x ∷ xs) ys = rw (words-append xs ys, append-assoc)
 
-later-slots : (ps : List (List (Unread Span))) → slots (map (startChunk []) ps) ≡ unreadWords (together ps)
+later-slots : (ps : List (List (Unread Span))) → slots (map (startChunk []) ps) ≡ unreadWords (flat ps)
 later-slots [] = refl
-later-slots (p ∷ ps) = rw (later-slots ps, words-append p (together ps))
+later-slots (p ∷ ps) = rw (later-slots ps, words-append p (flat ps))
 
-first-slots : (p : List (Unread Span)) (ps : List (List (Unread Span))) → slots (startChunks (p ∷ ps)) ≡ startSlot 0 ++ unreadWords (p ++ together ps)
-first-slots p ps = rw (end-block, later-slots ps, words-append p (together ps))
+first-slots : (p : List (Unread Span)) (ps : List (List (Unread Span))) → slots (startChunks (p ∷ ps)) ≡ startSlot 0 ++ unreadWords (p ++ flat ps)
+first-slots p ps = rw (end-block, later-slots ps, words-append p (flat ps))
 
 -- the slots of a start's chunks are those of its symbols, however it is cut
 start-slots : (tokens cuts : List ℕ) → slots (startChunks (pieces 0 cuts (unreadFrom 0 tokens))) ≡ startSlots tokens

@@ -12,9 +12,9 @@ use Rattle.language.specs.Symbols.{Symbol, terminal, nonterminal}
 use Rattle.language.specs.Trees.{Span}
 use Rattle.machine.specs.Entries.{Unread, nonterminalAt, symbol, valueOf}
 use Rattle.machine.specs.Spans.{lastAfter, spanOf}
-use Rattle.area.specs.Layout.{size, unreadSize, spanAt}
+use Rattle.area.specs.Layout.{size, spanAt}
 use Rattle.area.specs.Kept.{Lies, first-end, last-end, within, Tiles, tiled, tile, AllInRange, none-left, in-range}
-use Rattle.area.specs.Lengths.{tiles-end}
+use Rattle.area.specs.Lengths.{no-slots, tiles-end}
 
 -- ---- parts of a row side by side
 
@@ -52,11 +52,6 @@ pub record EndRead (n : ℕ) (before after : List (Unread Span)) (x d : Unread S
 
 never-end : (k : ℕ) → nonterminal k ≡ terminal 0 → ⊥
 never-end k c = let z : _≡_ {A = ℕ} 0 1 = cc in omega arith
-
--- every symbol takes a slot
-no-slots : (xs : List (Unread Span)) → unreadSize xs ≡ 0 → xs ≡ []
-no-slots [] h = refl
-no-slots (x ∷ xs) h = absurd (omega arith)
 
 span-of-slots : (y : Symbol) (s k : ℕ) → (y ≡ terminal 0 → ⊥) → spanAt y s k ≡ record { first = s - 1; after = (s - 1) + k }
 span-of-slots (terminal zero) s k h = absurd (h refl)

@@ -4,7 +4,7 @@
 -- t, N: how many terminals and nonterminals the grammar has; n: how many tokens the row has.
 -- Rests on Sides and Rising.
 --
--- Main definitions: Fits, AllFit, walkedAll, Counted. Main statements: walk-passes, counted-all.
+-- Main definitions: ChunkFits, AllFit, walkedAll, Counted. Main statements: walk-passes, counted-all.
 use mathlib.Core.Path.{_≡_, refl, sym, ap, _∙_}
 use mathlib.Core.Bool.{true, false}
 use mathlib.Core.List.{List, [], _∷_, _++_, append-assoc, map, reverse}
@@ -35,7 +35,7 @@ use Rattle.area.specs.Sides.{risingWords, Placed, placed-end, Scanned, s
 use Rattle.area.specs.Rising.{rising-stack, plain, plain-unread}
 
 -- a live chunk whose first slot is `from`, by rules (d) to (h)
-pub record Fits (t N n from : ℕ) (c : Chunk Span) : Type 0 where
+pub record ChunkFits (t N n from : ℕ) (c : Chunk Span) : Type 0 where
   pub begins : from ≤ n + 1
   pub stack-stands : Placed t N n from (reverse (c .stack)) (from + stackSize (c .stack))
   pub unread-stands : Placed t N n (from + stackSize (c .stack)) (map plain (c .unread)) (from + (stackSize (c .stack) + unreadSize (c .unread)))
@@ -45,7 +45,7 @@ pub record Fits (t N n from : ℕ) (c : Chunk Span) : Type 0 where
 pub data AllFit (t N n : ℕ) : ℕ → List (Option (Chunk Span)) → Type 0 where
   no-more-fit : {from : ℕ} → AllFit t N n from []
   gone-fits : {from : ℕ} {chunks : List (Option (Chunk Span))} → AllFit t N n from chunks → AllFit t N n from (none ∷ chunks)
-  live-fits : {from : ℕ} {c : Chunk Span} {chunks : List (Option (Chunk Span))} → Fits t N n from c → AllFit t N n (from + chunkSize (some c)) chunks
+  live-fits : {from : ℕ} {c : Chunk Span} {chunks : List (Option (Chunk Span))} → ChunkFits t N n from c → AllFit t N n (from + chunkSize (some c)) chunks
       → AllFit t N n from (some c ∷ chunks)
 
 -- ---- chunks that fit pass the walk
@@ -143,7 +143,7 @@ module _ (t N n : ℕ) (few : t < 256) (area : List ℕ) (n-is : getD area 0 0 �
       let e : to - from ≡ stackSize entries = omega (arith, placed-end p) in
       rw (n-is, e, d) (scan-passes few p words)
 
-  line-passes : (w : Walk) (from : ℕ) (c : Chunk Span) (words : List ℕ) → w .ok ≡ true → w .at ≡ from → Fits t N n from c → from + chunkSize (some c) ≤ n + 2
+  line-passes : (w : Walk) (from : ℕ) (c : Chunk Span) (words : List ℕ) → w .ok ≡ true → w .at ≡ from → ChunkFits t N n from c → from + chunkSize (some c) ≤ n + 2
       → slotsFrom area from ≡ stackWords (c .stack) ++ (unreadWords (c .unread) ++ words)
       → lineOf t N area w (statusWord (c .status)) from (from + stackSize (c .stack)) (from + chunkSize (some c)) (marks (c .stack)) ≡ walkedOver w c
   unfolding lineOf

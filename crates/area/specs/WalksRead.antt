@@ -29,9 +29,9 @@ use Rattle.area.specs.Layout.{stackSize, stackWords, marks, unreadSize, 
 use Rattle.area.specs.Kept.{StuckFine, not-stuck, stuck-fine}
 use Rattle.area.specs.Encoded.{slotsFrom}
 use Rattle.area.specs.Shape.{side, sideFits, statusFits, goneFits, boundsFit, stuckFits, sidesFit, fallen, counted, liveLine, lineOf, walked}
-use Rattle.area.specs.Sides.{risingWords, placed-end, placed-at, Scanned, Holds, scan-reads}
+use Rattle.area.specs.Sides.{risingWords, placed-end, placed-at, Scanned, HoldsEntries, scan-reads}
 use Rattle.area.specs.Rising.{rising-stack, plain-unread, plain-of}
-use Rattle.area.specs.Walks.{Fits, AllFit, no-more-fit, gone-fits, live-fits, side-passes}
+use Rattle.area.specs.Walks.{ChunkFits, AllFit, no-more-fit, gone-fits, live-fits, side-passes}
 
 -- ---- one row of the table
 
@@ -113,7 +113,7 @@ record LiveChunk (t N n : ℕ) (area : List ℕ) (from x f h e y : ℕ) : Type 0
   row-is : x ∷ f ∷ h ∷ e ∷ y ∷ [] ≡ row from (some chunk)
   words-are : take (4 * chunkSize (some chunk)) (slotsFrom area from) ≡ chunkWords (some chunk)
   end-is : e ≡ from + chunkSize (some chunk)
-  fits : Fits t N n from chunk
+  fits : ChunkFits t N n from chunk
 
 -- the words of k slots, and of l slots after them
 two-parts : (area : List ℕ) (s k l : ℕ) → take (4 * (k + l)) (slotsFrom area s) ≡ take (4 * k) (slotsFrom area s) ++ take (4 * l) (slotsFrom area (s + k))
@@ -147,14 +147,14 @@ as-unread entries h =
     record { words-are = sym (r .words-are) ∙ ap risingWords (plain-of entries h); size-is = sym (r .size-is) ∙ ap stackSize (plain-of entries h) }
 
 module _ (t N n : ℕ) (few : t < 256) (area : List ℕ) (n-is : getD area 0 0 ≡ n) (long : slotsAt area + 4 * (n + 2) ≤ length area) where
-  holds-scanned : {from to : ℕ} (s : Holds t N n from to (slotsFrom area from)) → Scanned (s .entries) (side t N area from to)
+  holds-scanned : {from to : ℕ} (s : HoldsEntries t N n from to (slotsFrom area from)) → Scanned (s .entries) (side t N area from to)
   holds-scanned {from} {to} s =
       let k : ℕ = 4 * stackSize (s .entries) in
       let words : List ℕ = slotsFrom area from in
       side-passes t N n few area n-is (s .entries) (drop k words) (s .placed) (sym (take-append-drop k words) ∙ ap (λ l. l ++ drop k words) (s .words-are))
 
   live-chunk : (from x h e y : ℕ) → SomeStatus x → from ≤ n + 1 → from ≤ h → h ≤ e
-      → (s : Holds t N n from h (slotsFrom area from)) (u : Holds t N n h e (slotsFrom area h))
+      → (s : HoldsEntries t N n from h (slotsFrom area from)) (u : HoldsEntries t N n h e (slotsFrom area h))
       → y ≡ marks (s .entries) → marks (u .entries) ≡ 0 → stuckFits x h e y ≡ true → LiveChunk t N n area from x from h e y
   live-chunk from x h e y st low p q s u m z k =
       let a = as-stack (s .entries) in
@@ -181,7 +181,7 @@ module _ (t N n : ℕ) (few : t < 256) (area : List ℕ) (n-is : getD area 0 0 �
         };
       }
 
-  side-reads : (from to : ℕ) → from ≤ to → to ≤ n + 2 → sideFits (side t N area from to) ≡ true → Holds t N n from to (slotsFrom area from)
+  side-reads : (from to : ℕ) → from ≤ to → to ≤ n + 2 → sideFits (side t N area from to) ≡ true → HoldsEntries t N n from to (slotsFrom area from)
   unfolding side
   side-reads from to h l e =
       scan-reads from to (slotsFrom area from) h (omega (arith, length-drop (slotsAt area + 4 * from) area)) (rw n-is at e)

@@ -9,13 +9,10 @@ use mathlib.Core.Path.{_≡_, refl, ap, _∙_}
 use mathlib.Core.Bool.{Bool, true, false}
 use mathlib.Core.Logic.{_↔_}
 use mathlib.Core.List.{List, []}
-use mathlib.Core.Option.{none, some}
 use Prim.Native.Nat.{ℕ, _*_, _≤_, _<_}
-use native.Mathlib.Omega.{arith}
-use lib.Dec.{ltb, leb}
-use lib.ListN.{length, getD}
-use Rattle.laws.specs.Least.{Least, Nowhere, Finds, nowhere, least}
-use Rattle.laws.specs.Tests.{ltb-true, ltb-false, lt-ltb, le-ltb, leb-true, leb-false}
+use lib.Dec.{ltb}
+use lib.ListN.{length}
+use Rattle.laws.specs.Tests.{ltb-true, ltb-false, lt-ltb, le-ltb}
 use Rattle.language.specs.declared.Refusal.{Refusal}
 use Rattle.language.specs.declared.Refusal.the-variants.{NoRoom, NoChunk, AtRest, NoJoin, BadState, Unfinished}
 use Rattle.language.specs.declared.Answer.{Answer}
@@ -27,7 +24,7 @@ use Rattle.language.specs.declared.RunAnswer.the-variants as runs
 use Rattle.language.specs.declared.ReportAnswer.{ReportAnswer}
 use Rattle.language.specs.declared.ReportAnswer.the-variants as reports
 use Rattle.language.specs.Grammar.{Grammar, mirrored}
-use Rattle.language.specs.Words.{countT, countN, too-low, too-high, grammarOf}
+use Rattle.language.specs.Words.{grammarOf}
 use Rattle.language.specs.Stages.{ready, finding, Given, given-exactly}
 use Rattle.language.specs.CheckHead.{head-finds}
 use Rattle.language.specs.CheckContents.{contents-finds}
@@ -39,7 +36,7 @@ use Rattle.language.specs.Conflicts.{conflict-finds}
 use Rattle.language.specs.WordsInRange.{in-range}
 use Rattle.language.specs.SetMasks.{leftSet, leftSize}
 use Rattle.language.specs.Matrix.{matrixOf}
-use Rattle.language.specs.Loads.{LoadInput, NoRoomForMatrix, too-short, matrixRoom, loadConditions, loadAnswer, accepted-exactly, SetInput, NoSuchNonterminal, past-the-last, pastTheLast, setConditions, setChecked, setOrRefusal, leftSetAnswer, rightSetAnswer}
+use Rattle.language.specs.Loads.{LoadInput, room-finds, loadConditions, loadAnswer, accepted-exactly, SetInput, nonterminal-finds, setConditions, setChecked, setOrRefusal, leftSetAnswer, rightSetAnswer}
 use Rattle.language.specs.Trees.{Span, Reduction}
 use Rattle.machine.specs.Moves.{Stuck}
 use Rattle.machine.specs.States.{State, Called, refused, Ran, refusedRun, Outcome, refusedRow, reported, refusalOf, outcome}
@@ -48,23 +45,19 @@ use Rattle.machine.specs.TableOf.{tableOf}
 use Rattle.machine.specs.Allowed.{Live, Steps, JoinsAt}
 use Rattle.machine.specs.AllowedExactly.{StepView, no-such-chunk, was-at-rest, steps-so, step-view, step-exactly, JoinView, no-left, no-right, left-moves, right-moves, joins-so, join-view, join-exactly}
 use Rattle.machine.specs.GivenExactly.{LiveAtRest, CannotJoin, no-live-right, left-not-at-rest, right-not-at-rest, step-no-chunk, step-at-rest, RunView, run-no-chunk-so, run-at-rest-so, runs-so, run-view, run-no-chunk, run-at-rest, join-no-chunk, no-join-exactly, Finished, StuckSo, ReportedSo, OutcomeView, unfinished-so, stuck-so, reported-so, outcome-view, unfinished-exactly, stuck-exactly, report-exactly}
-use Rattle.machine.specs.Counts.{RunSo, run-exactly}
+use Rattle.machine.specs.Counts.{RunNamed, run-exactly}
 use Rattle.machine.specs.Answers.{outcomeAnswer}
 use Rattle.area.specs.Layout.{decode}
 use Rattle.area.specs.Shape.{inShape}
-use Rattle.area.specs.Start.{StartInput, no-tokens, too-many, wrong-token, startConditions, startAnswer, start-ready, Startable, starts-exactly}
+use Rattle.area.specs.Start.{StartInput, startConditions, startAnswer, start-ready, starts-exactly}
 use Rattle.reader.specs.Calls.{calledAnswer, ranAnswer, stepCall, stepAnswer, runCall, runAnswer, joinCall, joinAnswer}
 use Rattle.reader.specs.ParseCall.{thenStart, parsedAnswer, parseOutcome, parseBegun, parseAnswer}
 use Rattle.report.specs.ReportCall.{reportOutcome, reportAnswer}
 use Rattle.demands.specs.PublicCalls.{PublicCall, number-of, value-of, check-symbols, check-words, load, left-set, right-set, in-shape, start, step, run, join, report, parse, entry-tokens}
-use Rattle.demands.specs.ParseDemand.{RightTokens, UncutReader, uncut-reader, parse-reads, uncut-finished}
+use Rattle.demands.specs.SameReport.{right-tokens}
+use Rattle.demands.specs.ParseDemand.{UncutReader, uncut-reader, parse-reads, uncut-finished}
 
 -- ---- lists of conditions
-
--- a search with one value
-tested : (P : ℕ → Type 0) (v : ℕ) (b : Bool) → (b ≡ true → Least P v) → (b ≡ false → Nowhere P) → Finds P (elim b [ true ↦ some v | false ↦ none ])
-tested P v true to of = least (to refl)
-tested P v false to of = nowhere (of refl)
 
 symbols-given : (words : List ℕ) (answer : Answer) → (checkSymbols words ≡ answer) ↔ Given words symbolConditions answer
 unfolding checkSymbols
@@ -78,37 +71,16 @@ words-given words answer = given-exactly words (words-ready words) answer
 abbrev pub lentToLoad : List ℕ → ℕ → LoadInput
 lentToLoad words room = record { words = words; room = room }
 
-room-found : (input : LoadInput) → Finds (NoRoomForMatrix input) (matrixRoom input)
-room-found input =
-    tested (NoRoomForMatrix input) 4096 (ltb (input .room) 4096)
-    (λ e. record { holds = too-short (ltb-true (input .room) 4096 e) refl; least = λ u h n. below u h n })
-    (λ e v n. long (ltb-false (input .room) 4096 e) n)
-  where
-    below : (u : ℕ) → u < 4096 → NoRoomForMatrix input u → ⊥
-    below u h (too-short r q) = omega arith
-
-    long : {v : ℕ} → 4096 ≤ input .room → NoRoomForMatrix input v → ⊥
-    long h (too-short r q) = omega arith
-
 pub load-given : (words : List ℕ) (room : ℕ) (answer : Answer) → (loadAnswer words room ≡ answer) ↔ Given (lentToLoad words room) loadConditions answer
 unfolding loadAnswer
 load-given words room answer =
     given-exactly (lentToLoad words room)
     (finding (head-finds words) (λ h. finding (contents-finds words) (λ c. finding (symbols-find words)
     (λ s. finding (form-finds (grammarOf words)) (λ f. finding (twins-find (grammarOf words))
-    (λ t. finding (conflict-finds (in-range words h s)) (λ n. finding (room-found (lentToLoad words room)) (λ m. ready)))))))) answer
+    (λ t. finding (conflict-finds (in-range words h s)) (λ n. finding (room-finds (lentToLoad words room)) (λ m. ready)))))))) answer
 
 abbrev pub lentToSet : List ℕ → ℕ → SetInput
 lentToSet words k = record { words = words; number = k }
-
-number-found : (input : SetInput) → Finds (NoSuchNonterminal input) (pastTheLast input)
-number-found input =
-    tested (NoSuchNonterminal input) 0 (leb (countN (input .words)) (input .number))
-    (λ e. record { holds = past-the-last (leb-true (countN (input .words)) (input .number) e) refl; least = λ u h n. absurd (omega arith) })
-    (λ e v n. below (leb-false (countN (input .words)) (input .number) e) n)
-  where
-    below : {v : ℕ} → input .number < countN (input .words) → NoSuchNonterminal input v → ⊥
-    below h (past-the-last l q) = omega arith
 
 checked-given : (words : List ℕ) (k : ℕ) (answer : Answer) → (setChecked words k ≡ answer) ↔ Given (lentToSet words k) setConditions answer
 unfolding setChecked
@@ -116,7 +88,7 @@ checked-given words k answer =
     given-exactly (lentToSet words k)
     (finding (head-finds words) (λ h. finding (contents-finds words) (λ c. finding (symbols-find words)
     (λ s. finding (form-finds (grammarOf words)) (λ f. finding (twins-find (grammarOf words))
-    (λ t. finding (number-found (lentToSet words k)) (λ n. ready))))))) answer
+    (λ t. finding (nonterminal-finds (lentToSet words k)) (λ n. ready))))))) answer
 
 -- a set of the rules of g, or a refusal
 pub data SetGiven (words : List ℕ) (k : ℕ) (g : Grammar) : SetAnswer → Type 1 where
@@ -170,7 +142,7 @@ module _ (words matrix area : List ℕ) where
     run-15 : inShape words matrix area ≡ false → RunGiven c budget (runs.Refused BadState)
     run-12 : inShape words matrix area ≡ true → (Live (decode area .chunks) c → ⊥) → RunGiven c budget (runs.Refused NoChunk)
     run-13 : inShape words matrix area ≡ true → LiveAtRest c (decode area) → RunGiven c budget (runs.Refused AtRest)
-    run-0 : inShape words matrix area ≡ true → {j : ℕ} {s′ : State Span} → RunSo (tableOf words matrix) c budget (decode area) j s′
+    run-0 : inShape words matrix area ≡ true → {j : ℕ} {s′ : State Span} → RunNamed (tableOf words matrix) c budget (decode area) j s′
         → RunGiven c budget (runs.Moves j)
 
   -- 15, 12, 14; else the join
@@ -357,20 +329,6 @@ pub data ParseGiven (words tokens : List ℕ) (room outRoom : ℕ) : ReportAnswe
       → ReportedSo (reader .last) entries moves → outRoom < 3 * length entries → ParseGiven words tokens room outRoom (reports.Refused (NoRoom (3 * length entries)))
   parse-0 : Begins words tokens room → (reader : UncutReader words tokens) (entries : List (Reduction Span)) (moves : ℕ)
       → ReportedSo (reader .last) entries moves → 3 * length entries ≤ outRoom → ParseGiven words tokens room outRoom (reports.Report (length entries) moves)
-
--- a row that starts has 1 to 16,384 tokens in 1..T
-right-tokens : {input : StartInput} → Startable input → RightTokens (input .words) (input .tokens)
-right-tokens {input} can = record {
-  some-token = let h : length (input .tokens) ≡ 0 → ⊥ = λ e. can .some-token 0 (no-tokens e refl) in omega arith;
-  few-tokens = let h : 16384 < length (input .tokens) → ⊥ = λ l. can .few-tokens 0 (too-many l refl) in omega arith;
-  each = λ i l. (within-low i l, within-high i l);
-}
-  where
-    within-low : (i : ℕ) → i < length (input .tokens) → 1 ≤ getD (input .tokens) i 0
-    within-low i l = let h : getD (input .tokens) i 0 < 1 → ⊥ = λ b. can .right-tokens i (wrong-token l (too-low b)) in omega arith
-
-    within-high : (i : ℕ) → i < length (input .tokens) → getD (input .tokens) i 0 ≤ countT (input .words)
-    within-high i l = let h : countT (input .words) < getD (input .tokens) i 0 → ⊥ = λ b. can .right-tokens i (wrong-token l (too-high b)) in omega arith
 
 module _ (words tokens : List ℕ) (room : ℕ) where
   pub parse-begins : Begins words tokens room → parseBegun words tokens room ≡ Done

@@ -7,52 +7,29 @@
 -- A lent area in shape holds such a state: the one it decodes to. Its words have 16 bits, so its word 2 is below 65,536.
 -- Rests on OnWords, on machine's AllowedExactly and Counts, and area's InShape and Safe.
 --
--- Main definitions: NamedMoves, RunNamed; StepLeaves, RunLeaves, JoinLeaves. Main statements: step-demand, run-demand, join-demand; of a lent area: lent-state.
+-- Main definitions: StepLeaves, RunLeaves, JoinLeaves. Main statements: step-demand, run-demand, join-demand; of a lent area: lent-state.
 use mathlib.Core.Path.{_≡_, refl, sym, ap, _∙_}
 use mathlib.Core.Bool.{true}
-use mathlib.Core.Logic.{_↔_, _⊎_}
+use mathlib.Core.Logic.{_↔_}
 use mathlib.Core.List.{List, _++_}
-use Prim.Native.Nat.{ℕ, suc, _<_}
+use Prim.Native.Nat.{ℕ, _<_}
 use native.Mathlib.Omega.{arith}
 use lib.ListN.{getD, drop}
 use Rattle.language.specs.declared.Answer.the-variants.{Done, Refused}
 use Rattle.language.specs.declared.RunAnswer.the-variants as runs
 use Rattle.language.specs.Trees.{Span}
-use Rattle.machine.specs.Moves.{Table}
 use Rattle.machine.specs.States.{State, Called, refused, became, Ran, refusedRun, ran, step, run, join}
 use Rattle.machine.specs.TableOf.{tableOf}
 use Rattle.machine.specs.Schedules.{by-step, by-join}
-use Rattle.machine.specs.Allowed.{IsAtRest, Live, Steps, JoinsAt}
+use Rattle.machine.specs.Allowed.{Steps, JoinsAt}
 use Rattle.machine.specs.AllowedExactly.{step-exactly, join-exactly}
-use Rattle.machine.specs.GivenExactly.{LiveAtRest}
-use Rattle.machine.specs.Counts.{MovesMade, none-made, one-and, RunSo, run-exactly}
+use Rattle.machine.specs.Counts.{RunNamed, run-exactly}
 use Rattle.area.specs.Layout.{need, encode, decode}
 use Rattle.area.specs.Shape.{grammarInShape, inShape}
 use Rattle.area.specs.InShape.{in-shape-parts, in-shape-holds}
 use Rattle.area.specs.Safe.{Safe, safe-turned, safe-run}
 use Rattle.reader.specs.Calls.{calledAnswer, calledArea, ranAnswer, ranArea, stepCall, stepAnswer, stepArea, runCall, runAnswer, runArea, joinCall, joinAnswer, joinArea}
 use Rattle.demands.specs.OnWords.{reads, step-is, run-is, join-is, leaves}
-
--- j moves of chunk c, each one that document 01 names
-pub data NamedMoves (table : Table Span) (c : ℕ) : State Span → ℕ → State Span → Type 0 where
-  no-move : {s : State Span} → NamedMoves table c s 0 s
-  move-and : {s s′ s″ : State Span} {j : ℕ} → Steps table c s s′ → NamedMoves table c s′ j s″ → NamedMoves table c s (suc j) s″
-
--- "it makes moves until K are made or it rests, and answers how many it made", of a live chunk that is not at rest
-pub record RunNamed (table : Table Span) (c budget : ℕ) (s : State Span) (j : ℕ) (s′ : State Span) : Type 0 where
-  pub live : Live (s .chunks) c
-  pub not-at-rest : IsAtRest (live .chunk) → ⊥
-  pub moves : NamedMoves table c s j s′
-  pub until : (j ≡ budget) ⊎ ((j < budget) × LiveAtRest c s′)
-
-module _ (table : Table Span) (c : ℕ) where
-  named : {s s′ : State Span} {j : ℕ} → MovesMade table c s j s′ → NamedMoves table c s j s′
-  named none-made = no-move
-  named (one-and {s = s} {s′ = s′} q m) = move-and (step-exactly table c s s′ .1 q) (named m)
-
-  made : {s s′ : State Span} {j : ℕ} → NamedMoves table c s j s′ → MovesMade table c s j s′
-  made no-move = none-made
-  made (move-and {s = s} {s′ = s′} h m) = one-and (step-exactly table c s s′ .0 h) (made m)
 
 -- a step of chunk c is accepted and leaves the words of s′, a state of n tokens that keeps the rules; what stands beyond stays
 abbrev pub StepLeaves : List ℕ → List ℕ → List ℕ → List ℕ → ℕ → ℕ → State Span → Type 0
@@ -104,15 +81,9 @@ module _ (words matrix : List ℕ) (grammar : grammarInShape words matrix ≡ tr
   unfolding runAnswer runArea
   run-demand c budget j s′ = (
     (λ h. to (run (tableOf words matrix) c budget s) refl (run-is words matrix grammar safe rest c budget) (h .0) (h .1) (h .2)),
-    (λ m. from (run-exactly (tableOf words matrix) c budget s j s′ .1 (so m))),
+    (λ m. from (run-exactly (tableOf words matrix) c budget s j s′ .1 m)),
   )
     where
-      so : RunNamed (tableOf words matrix) c budget s j s′ → RunSo (tableOf words matrix) c budget s j s′
-      so h = record { live = h .live; not-at-rest = h .not-at-rest; made = made (tableOf words matrix) c (h .moves); until = h .until }
-
-      is-named : RunSo (tableOf words matrix) c budget s j s′ → RunNamed (tableOf words matrix) c budget s j s′
-      is-named h = record { live = h .live; not-at-rest = h .not-at-rest; moves = named (tableOf words matrix) c (h .made); until = h .until }
-
       to : (x : Ran Span) → run (tableOf words matrix) c budget s ≡ x → runCall words matrix area c budget ≡ run (tableOf words matrix) c budget s
           → runAnswer words matrix area c budget ≡ runs.Moves j → Safe words n s′ → runArea words matrix area c budget ≡ encode n s′ ++ rest
           → RunNamed (tableOf words matrix) c budget s j s′
@@ -125,7 +96,7 @@ module _ (words matrix : List ℕ) (grammar : grammarInShape words matrix ≡ tr
           let i-is : i ≡ j = cc in
           let f : runArea words matrix area c budget ≡ encode n s″ ++ rest = ap (λ x. ranArea x area) (is ∙ q) ∙ leaves words matrix grammar safe rest s″ in
           let same : s″ ≡ s′ = one-state (safe-run words matrix grammar c budget safe q) k (sym f ∙ w) in
-          is-named (run-exactly (tableOf words matrix) c budget s j s′ .0 (q ∙ ap (λ u. ran i u) same ∙ ap (λ m. ran m s′) i-is))
+          run-exactly (tableOf words matrix) c budget s j s′ .0 (q ∙ ap (λ u. ran i u) same ∙ ap (λ m. ran m s′) i-is)
 
       from : run (tableOf words matrix) c budget s ≡ ran j s′ → RunLeaves words matrix area rest n c budget j s′
       from q =

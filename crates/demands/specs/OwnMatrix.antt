@@ -3,11 +3,11 @@
 -- beyond is untouched".
 -- Rests on Calls, on language's Loads and Matrix, machine's TableOf, and area's EndMarkOfShape.
 --
--- Main definition: ownTable. Main statements: own-bytes, own-shape, own-end-mark, own-laws, table-is.
+-- Main statements: own-bytes, shape-is, table-is; from below, for all here: ownTable, own-end-mark, own-laws, own-shape.
 use mathlib.Core.Path.{_≡_, sym, ap, subst, _∙_}
 use mathlib.Core.Bool.{true}
 use mathlib.Core.List.{List, [], _++_, append-nil}
-use Prim.Native.Nat.{ℕ, _≤_}
+use Prim.Native.Nat.{ℕ}
 use lib.ListN.{length, take, drop, take-append-drop}
 use lib.Seq.{take-at}
 use lib.Dec.{ltb}
@@ -16,39 +16,20 @@ use Rattle.language.specs.Grammar.{leftSide}
 use Rattle.language.specs.Words.{countA, grammarOf}
 use Rattle.language.specs.Matching.{matching}
 use Rattle.language.specs.Matrix.{matrixOf, matrix-length}
-use Rattle.language.specs.WordsInRange.{few-terminals}
 use Rattle.language.specs.Loads.{Accepted, loadAnswer, loadedBytes, loadBytes, accepted-exactly}
-use Rattle.language.specs.Trees.{Span}
-use Rattle.machine.specs.Moves.{Table}
-use Rattle.machine.specs.Laws.{EndMark, Laws}
 use Rattle.machine.specs.Spans.{spanOf}
-use Rattle.machine.specs.TableOf.{relationAt, tableOf, relation-of-matrix, end-mark-of-words, laws-of-words}
+use Rattle.machine.specs.TableOf.{relationAt, tableOf, relation-of-words}
+pub use Rattle.machine.specs.TableOf.{ownTable, own-end-mark, own-laws}
 use Rattle.area.specs.Shape.{grammarInShape}
 use Rattle.area.specs.EndMarkOfShape.{matrix-in-shape}
+pub use Rattle.area.specs.EndMarkOfShape.{own-shape}
 use Rattle.demands.specs.Calls.{OfLoad}
 
--- the table of the words with their own matrix: the one that the one-call parse uses
-abbrev pub ownTable : List ℕ → Table Span
-ownTable words = tableOf words (matrixOf (grammarOf words))
-
 module _ {words : List ℕ} (accepted : Accepted words) where
-  pub own-shape : grammarInShape words (matrixOf (grammarOf words)) ≡ true
-  own-shape = rw (append-nil (matrixOf (grammarOf words))) at (matrix-in-shape words accepted [])
-
-  pub own-end-mark : EndMark (ownTable words)
-  own-end-mark = rw (append-nil (matrixOf (grammarOf words))) at (end-mark-of-words words accepted [])
-
-  pub own-laws : Laws (grammarOf words) (ownTable words)
-  own-laws = rw (append-nil (matrixOf (grammarOf words))) at (laws-of-words words accepted [])
-
-  few : grammarOf words .terminals ≤ 63
-  unfolding grammarOf
-  few = few-terminals words (accepted .passed .head) .1
-
   same-relations : (rest : List ℕ) (a b : ℕ) → relationAt (matrixOf (grammarOf words) ++ rest) a b ≡ relationAt (matrixOf (grammarOf words)) a b
   same-relations rest a b =
-      let own = rw (append-nil (matrixOf (grammarOf words))) at (relation-of-matrix (grammarOf words) [] few a b) in
-      relation-of-matrix (grammarOf words) rest few a b ∙ sym own
+      let own = rw (append-nil (matrixOf (grammarOf words))) at (relation-of-words words accepted [] a b) in
+      relation-of-words words accepted rest a b ∙ sym own
 
   same-table : (rest : List ℕ) → tableOf words (matrixOf (grammarOf words) ++ rest) ≡ ownTable words
   same-table rest = λ i. record {

@@ -3,20 +3,20 @@
 -- Document 01: "The front-to-back parse is C = 1, also offered as one call"; "The one-call parse checks 1 to 9 by number, then 11 for the work
 -- area, then 17 to 20, then 11 for the report"; "A stuck place is that of the unread b"; "Each report also gives the moves since start".
 -- Long enough: need(n, 1) words for the area, and three words for each of n reductions, of which a row of n tokens never makes more.
--- Rests on OwnMatrix, on reader's ParseCall, area's Start and Safe, and machine's UncutRow and GivenExactly.
+-- Rests on OwnMatrix, on reader's ParseCall and ParseGiven, area's Start and Safe, and machine's UncutRow and GivenExactly.
 --
 -- Main definitions: RightTokens, UncutReader, entriesOf, ParseReports, GotStuck.
 -- Main statements: parse-accepts-exactly, parse-reports, parse-refuses, one-tree-only; the reader: uncut-reader; uncut-finished.
 use mathlib.Core.Path.{_≡_, refl, sym, ap, _∙_}
-use mathlib.Core.Bool.{false, true≢false}
+use mathlib.Core.Bool.{false}
 use mathlib.Core.Logic.{_↔_, _⊎_, inl, inr}
-use mathlib.Core.List.{List, [], _++_, List·Permᴰ, List·Permᴰ·nil, List·Permᴰ·cons, List·Permᴰ·swap, List·Permᴰ·trans}
-use Prim.Native.Nat.{ℕ, suc, _+_, _*_, _≤_, _<_}
+use mathlib.Core.List.{List, [], _++_}
+use Prim.Native.Nat.{ℕ, _+_, _*_, _≤_, _<_}
 use native.Mathlib.Omega.{arith}
 use lib.Dec.{ltb}
 use lib.ListN.{length, getD, drop}
 use Rattle.laws.specs.Tests.{le-ltb}
-use Rattle.laws.specs.Sorting.{sort-perm}
+use Rattle.laws.specs.Sorting.{perm-length, sort-perm}
 use Rattle.language.specs.declared.Refusal.{Refusal}
 use Rattle.language.specs.declared.Refusal.the-variants.{Unfinished}
 use Rattle.language.specs.declared.Answer.the-variants.{Done}
@@ -28,23 +28,25 @@ use Rattle.language.specs.Matrix.{matrixOf}
 use Rattle.language.specs.Loads.{Accepted, loadAnswer, accepted-exactly}
 use Rattle.language.specs.Trees.{Span, Reduction, postOrder, forestOf}
 use Rattle.language.specs.Reports.{standsBefore, reportWords}
-use Rattle.machine.specs.Moves.{Stuck, noRelation, noRule, notAxiom, sideBySide}
+use Rattle.machine.specs.Moves.{Stuck}
 use Rattle.machine.specs.States.{State, start, Outcome, refusedRow, reported, refusalOf, outcome}
 use Rattle.machine.specs.Starts.{NoEnd}
 use Rattle.machine.specs.Bounded.{mostMoves}
 use Rattle.machine.specs.Progress.{Answered}
 use Rattle.machine.specs.Answers.{outcomeAnswer, outcomeOut}
 use Rattle.machine.specs.ReadThrough.{ReadThrough, read-through-schedule, run-reads-through}
-use Rattle.machine.specs.UncutRow.{InLanguage, AxiomTree, FirstRefusal, first-refusal-number, Verdict, reads-through, verdict, report-of-tree, refused-exactly, tree-in-language, one-axiom-tree}
+use Rattle.machine.specs.UncutRow.{InLanguage, AxiomTree, FirstRefusal, first-refusal-number, Verdict, reads-through, verdict}
+use Rattle.machine.specs.UncutRow.{report-of-tree, refused-exactly, tree-in-language, one-axiom-tree}
 use Rattle.machine.specs.UncutRow as uncut
-use Rattle.machine.specs.GivenExactly.{StuckSo, stuck-exactly, report-exactly, outcome-refuses}
+use Rattle.machine.specs.GivenExactly.{StuckSo, value-stuck, stuck-exactly, report-exactly, outcome-refuses}
 use Rattle.area.specs.Layout.{need}
 use Rattle.area.specs.Lengths.{few-reductions}
-use Rattle.area.specs.Start.{StartInput, GrammarBroken, grammar-broken, NoTokens, no-tokens, TooMany, too-many, WrongToken, wrong-token, WrongCut, too-many-cuts, cut-above, cut-below, NoRoomForRow, no-room, Startable, starts-exactly}
+use Rattle.area.specs.Start.{StartInput, NoTokens, no-tokens, TooMany, too-many, WrongToken, wrong-token, Startable, starts-exactly}
+use Rattle.area.specs.StartKept.{no-end}
 use Rattle.area.specs.Safe.{Safe, safe-start, safe-scheduled}
 use Rattle.reader.specs.ParseCall.{ranOutcome, thenStart, parsedAnswer, parsedOut, parseOutcome, parseBegun, parseAnswer, parseOut}
+use Rattle.reader.specs.ParseGiven.{lent, checked-starts}
 use Rattle.demands.specs.OwnMatrix.{ownTable, own-shape, own-end-mark, own-laws}
-use Rattle.demands.specs.Reached.{no-end}
 
 -- 1 to 16,384 tokens in 1..T
 pub record RightTokens (words tokens : List ℕ) : Type 0 where
@@ -78,27 +80,11 @@ pub record GotStuck (tokens : List ℕ) (last : State Span) (refusal : Refusal) 
   pub number-high : numberOf refusal ≤ 19
   pub place-within : place ≤ length tokens
 
--- "A stuck place is that of the unread b", and the refusal's value
-stuck-value : (why : Stuck) (place : ℕ) → valueOf (refusalOf why place) ≡ place
-stuck-value noRelation place = refl
-stuck-value noRule place = refl
-stuck-value notAxiom place = refl
-stuck-value sideBySide place = refl
-
-perm-length : {A : Type 0} {l l′ : List A} → List·Permᴰ l l′ → length l ≡ length l′
-perm-length List·Permᴰ·nil = refl
-perm-length (List·Permᴰ·cons e p) = ap suc (perm-length p)
-perm-length (List·Permᴰ·swap e f) = refl
-perm-length (List·Permᴰ·trans p q) = perm-length p ∙ perm-length q
-
 module _ {words : List ℕ} (accepted : Accepted words) {tokens : List ℕ} (right : RightTokens words tokens) where
   -- such a row starts uncut
   module _ (room : ℕ) (enough : need (length tokens) 1 ≤ room) where
     abbrev input : StartInput
-    input = record { words = words; matrix = matrixOf (grammarOf words); tokens = tokens; cuts = []; room = room }
-
-    fine-shape : (v : ℕ) → GrammarBroken input v → ⊥
-    fine-shape v (grammar-broken f q) = true≢false (sym (own-shape accepted) ∙ f)
+    input = lent words tokens room
 
     fine-some : (v : ℕ) → NoTokens input v → ⊥
     fine-some v (no-tokens e q) = omega (arith, right .some-token)
@@ -110,23 +96,8 @@ module _ {words : List ℕ} (accepted : Accepted words) {tokens : List ℕ} (rig
     fine-tokens v (wrong-token l (too-low h)) = omega (arith, right .each v l .0)
     fine-tokens v (wrong-token l (too-high h)) = omega (arith, right .each v l .1)
 
-    fine-cuts : (v : ℕ) → WrongCut input v → ⊥
-    fine-cuts v (too-many-cuts h) = omega arith
-    fine-cuts v (cut-above few h a) = omega arith
-    fine-cuts v (cut-below few h a) = omega arith
-
-    fine-room : (v : ℕ) → NoRoomForRow input v → ⊥
-    fine-room v (no-room h q) = omega arith
-
     can-start : Startable input
-    can-start = record {
-      in-shape = fine-shape;
-      some-token = fine-some;
-      few-tokens = fine-few;
-      right-tokens = fine-tokens;
-      right-cuts = fine-cuts;
-      room-enough = fine-room;
-    }
+    can-start = checked-starts words tokens room (record { loads = accepted; some-token = fine-some; few-tokens = fine-few; right-tokens = fine-tokens }) enough
 
     pub parse-begins : parseBegun words tokens room ≡ Done
     unfolding parseBegun
@@ -228,7 +199,7 @@ module _ {words : List ℕ} (accepted : Accepted words) {tokens : List ℕ} (rig
                 refusal-is = z;
                 number-low = n .0;
                 number-high = n .1;
-                place-within = let v = ap valueOf z ∙ stuck-value why place in omega (arith, n .2);
+                place-within = let v = ap valueOf z ∙ value-stuck why place in omega (arith, n .2);
               }
 
       -- a row that no axiom derives is refused as the reader gets stuck: 17, 18 or 19, never 16 or 20; the report run stays

@@ -16,6 +16,7 @@ use Rattle.language.specs.Trees.{Span}
 use Rattle.machine.specs.States.{State}
 use Rattle.machine.specs.TableOf.{tableOf}
 use Rattle.machine.specs.Allowed.{Steps, JoinsAt}
+use Rattle.machine.specs.Counts.{RunNamed}
 use Rattle.machine.specs.ReadThrough.{read-once}
 use Rattle.area.specs.Layout.{decode}
 use Rattle.area.specs.Start.{bad-state-given}
@@ -25,7 +26,7 @@ use Rattle.demands.specs.Calls.{areaAfter}
 use Rattle.demands.specs.OwnMatrix.{ownTable, accepted, shape-is}
 use Rattle.demands.specs.Standing.{standing-after}
 use Rattle.demands.specs.ParseDemand.{uncut-reader, parse-accepts-exactly, parse-reports, parse-refuses, one-tree-only}
-use Rattle.demands.specs.MoveDemand.{RunNamed, StepLeaves, RunLeaves, JoinLeaves, step-demand, run-demand, join-demand, lent-state}
+use Rattle.demands.specs.MoveDemand.{StepLeaves, RunLeaves, JoinLeaves, step-demand, run-demand, join-demand, lent-state}
 use Rattle.demands.specs.Reached.{each-right, report-never-15, moves-counted, moves-few, in-shape-there, low-there}
 use Rattle.demands.specs.SameReport.{same-but-moves, same-report, report-counts}
 use Rattle.demands.specs.Finishing.{some-move, finished-stays, lists-end, goes-on-finishes, can-finish}

@@ -3,7 +3,7 @@
 -- Document 01: 15 is never given "for a state reached from such a load and start with those same words and matrix"; "All return number
 -- and value and leave lent memory unchanged"; "Each report also gives the moves since start, joins included".
 -- Since the list of calls is any list, what is said of the next call is said of every call of every list.
--- Rests on Standing, and on machine's Bounded and Counts.
+-- Rests on Standing, on area's StartKept, and on machine's Bounded and Counts.
 --
 -- Main definition: EachRight. Main statements: each-right, never-15, refused-changes-nothing, report-never-15, moves-counted, moves-few;
 -- in-shape-there, low-there.
@@ -13,42 +13,27 @@ use mathlib.Core.Logic.{_⊎_, inl, inr}
 use mathlib.Core.List.{List, [], _∷_}
 use Prim.Native.Nat.{ℕ, suc, _+_, _*_, _%_, _≤_, _<_}
 use native.Mathlib.Omega.{arith}
-use lib.Dec.{eqb, ltb}
+use lib.Dec.{ltb}
 use lib.ListN.{length, getD}
-use Rattle.laws.specs.Tests.{eqb-true}
 use Rattle.language.specs.declared.Refusal.{Refusal}
 use Rattle.language.specs.declared.Refusal.the-variants.{Unfinished}
 use Rattle.language.specs.declared.ReportAnswer.the-variants as report
 use Rattle.language.specs.Refusals.{numberOf, reportNumber}
-use Rattle.language.specs.Words.{too-low}
 use Rattle.language.specs.Trees.{Span, Reduction}
 use Rattle.machine.specs.Moves.{Stuck, noRelation, noRule, notAxiom, sideBySide}
 use Rattle.machine.specs.States.{State, Outcome, refusedRow, reported, refusalOf, outcome}
-use Rattle.machine.specs.Starts.{NoEnd}
 use Rattle.machine.specs.Answers.{outcomeAnswer}
 use Rattle.machine.specs.Bounded.{mostMoves, bounded}
 use Rattle.machine.specs.Counts.{moves-since-start}
 use Rattle.machine.specs.GivenExactly.{outcome-refuses}
 use Rattle.area.specs.Encoded.{moves-at, low-moves-at}
 use Rattle.area.specs.Shape.{inShape}
-use Rattle.area.specs.Start.{StartInput, Startable, wrong-token}
+use Rattle.area.specs.StartKept.{no-end}
 use Rattle.report.specs.ReportCall.{reportOutcome, reportAnswer}
 use Rattle.demands.specs.Calls.{Call, matrixFor, callNumber, callMade, callArea, areaAfter, movesMade, countIn, OfLoad, AllOfLoad, no-call, and-call, Begun}
 use Rattle.demands.specs.OwnMatrix.{ownTable, own-end-mark, accepted, shape-is}
 use Rattle.demands.specs.OnWords.{stands, report-is}
 use Rattle.demands.specs.Standing.{Standing, CallView, refused-so, moved-so, startable, standing-begun, standing-safe, standing-view, standing-call, standing-after}
-
--- no token of a row that starts is #
-tokens-no-end : (tokens : List ℕ) → ((i : ℕ) → i < length tokens → getD tokens i 0 < 1 → ⊥) → NoEnd tokens
-tokens-no-end [] h = tt
-tokens-no-end (a ∷ tokens) h = (go (eqb a 0) refl, tokens-no-end tokens (λ i l. h (suc i) (omega arith)))
-  where
-    go : (b : Bool) → eqb a 0 ≡ b → eqb a 0 ≡ false
-    go false e = e
-    go true e = absurd (h 0 (omega arith) (let z = eqb-true a 0 e in omega arith))
-
-pub no-end : {input : StartInput} → Startable input → NoEnd (input .tokens)
-no-end {input} can = tokens-no-end (input .tokens) (λ i l h. can .right-tokens i (wrong-token l (too-low h)))
 
 -- the numbers of a row's outcome: 16, 17 to 20, and 0 or 11 for a report
 pub data OutcomeNumber (o : Outcome) (room : ℕ) : Type 0 where

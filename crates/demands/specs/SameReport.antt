@@ -3,17 +3,17 @@
 -- Document 01: "The front-to-back parse is C = 1, also offered as one call"; "a report writes just these reductions, put in order, and
 -- gives this count"; "this is the front-to-back order".
 -- The report run is any: where it is too short, both answer 11 with the same value. The parse's area needs need(n, 1) words.
--- Rests on Reached and ParseDemand, and on machine's Confluent.
+-- Rests on Reached and ParseDemand, on area's StartKept, and on machine's Confluent.
 --
 -- Main statements: same-but-moves, same-report; report-counts.
 use mathlib.Core.Path.{_≡_, refl, sym, ap, _∙_}
 use mathlib.Core.Bool.{Bool, true, false}
 use mathlib.Core.List.{List}
-use Prim.Native.Nat.{ℕ, _*_, _≤_, _<_}
+use Prim.Native.Nat.{ℕ, _*_, _≤_}
 use native.Mathlib.Omega.{arith}
-use native.Mathlib.Decide.{decLe}
 use lib.Dec.{ltb}
 use lib.ListN.{length, getD}
+use Rattle.laws.specs.Tests.{le-unless}
 use Rattle.language.specs.declared.Refusal.the-variants.{NoRoom}
 use Rattle.language.specs.declared.ReportAnswer.the-variants.{Report, Refused}
 use Rattle.language.specs.Refusals.{reportNumber, reportValue}
@@ -28,20 +28,14 @@ use Rattle.machine.specs.Counts.{moves-since-start}
 use Rattle.machine.specs.GivenExactly.{report-exactly}
 use Rattle.area.specs.Layout.{need}
 use Rattle.area.specs.Start.{StartInput, no-tokens, too-many, wrong-token, Startable}
+use Rattle.area.specs.StartKept.{no-end}
 use Rattle.reader.specs.ParseCall.{parseOutcome, parseAnswer, parseOut}
 use Rattle.report.specs.ReportCall.{reportOutcome, reportAnswer, reportOut}
 use Rattle.demands.specs.Calls.{Call, areaAfter, movesMade, OfLoad, AllOfLoad, Begun}
 use Rattle.demands.specs.OwnMatrix.{ownTable, own-end-mark, accepted}
 use Rattle.demands.specs.Standing.{startable}
-use Rattle.demands.specs.Reached.{no-end, there, report-there, report-number}
+use Rattle.demands.specs.Reached.{there, report-there, report-number}
 use Rattle.demands.specs.ParseDemand.{RightTokens, parse-answers, parse-writes, uncut-reader, parse-reads, uncut-finished}
-
-le-unless : (a b : ℕ) → (b < a → ⊥) → a ≤ b
-le-unless a b h = go (decLe a b)
-  where
-    go : Dec (a ≤ b) → a ≤ b
-    go (yes l) = l
-    go (no l) = absurd (h (omega arith))
 
 -- the tokens of a row that starts
 pub right-tokens : {input : StartInput} → Startable input → RightTokens (input .words) (input .tokens)

@@ -4,22 +4,16 @@
 -- Rests on report's ReportCall.
 --
 -- Main statement: entry-part.
-use mathlib.Core.Path.{_≡_, refl, sym, ap, _∙_}
+use mathlib.Core.Path.{_≡_, refl}
 use mathlib.Core.Bool.{Bool, true, false, _&&_}
 use mathlib.Core.List.{List, []}
 use Prim.Native.Nat.{ℕ, _+_, _*_, _-_, _≤_}
-use native.Mathlib.Omega.{arith}
 use lib.Dec.{leb}
 use lib.ListN.{length, getD, take, drop}
-use lib.Seq.{slice, length-slice, take-add, drop-at, length-take-le}
+use lib.Seq.{slice, length-slice}
+use Rattle.laws.specs.Parts.{part-slice}
 use Rattle.laws.specs.Tests.{and-both, leb-true}
 use Rattle.report.specs.ReportCall.{entryStands, entryStart, entryTokens}
-
--- the words from f up to t, by a place and a count
-part-is : (f t : ℕ) (l : List ℕ) → f ≤ t → t ≤ length l → take (t - f) (drop f l) ≡ slice f t l
-part-is f t l h k =
-    let e : t ≡ f + (t - f) = omega arith in
-    sym (ap (λ n. drop f (take n l)) e ∙ ap (drop f) (take-add f (t - f) l) ∙ drop-at (take f l) (take (t - f) (drop f l)) f (length-take-le f l (omega arith)))
 
 -- an entry that stands, and one that does not
 abbrev given : Bool → ℕ → ℕ → List ℕ → List ℕ
@@ -31,7 +25,7 @@ start stands f = elim stands [ true ↦ f | false ↦ 0 ]
 by : (b : Bool) (f t : ℕ) (l : List ℕ) → (b ≡ true → (f ≤ t) × (t ≤ length l)) → take (length {A = ℕ} (given b f t l)) (drop (start b f) l) ≡ given b f t l
 by true f t l h =
     let fits = h refl in
-    rw (length-slice f t l (fits .1)) (part-is f t l (fits .0) (fits .1))
+    rw (length-slice f t l (fits .1)) (part-slice f t l (fits .0) (fits .1))
 by false f t l h = refl
 
 -- the places of an entry that stands

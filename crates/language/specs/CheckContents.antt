@@ -1,6 +1,9 @@
 -- Check 2, CONTENTS: "an entry is absent, entry 0 isn't 4+R, an entry isn't 2 to 9 above the one before, or the last body isn't
 -- 2 to 9 words"; value: "first such entry; R for the last body".
+-- Document 01, "Refusal numbers", 2.
 -- Rests on Words and Stages.
+--
+-- Main definitions: BadContents, badContents, contentsStage, contentsCondition. Main statement: contents-finds.
 use mathlib.Core.Path.{_≡_, refl}
 use mathlib.Core.Bool.{Bool, true, false, _||_, not, false≢true}
 use mathlib.Core.Logic.{_⊎_, inl, inr, _≢_}
@@ -72,7 +75,8 @@ module _ (words : List ℕ) where
   of-bad r (entry-first h n) =
       (omega arith, entry-asked 0 h (or-second (leb (length words) (4 + 0)) (wrongEntry words 0) (rw (ne-eqb (entry words 0) (4 + countR words) n))))
   of-bad r (entry-step {r = q} h o) =
-      (omega arith, entry-asked (suc q) h (or-second (leb (length words) (4 + suc q)) (wrongEntry words (suc q)) (outside-iff (entry words q + 2) (entry words q + 9) (entry words (suc q)) .1 o)))
+      let wrong = outside-iff (entry words q + 2) (entry words q + 9) (entry words (suc q)) .1 o in
+      (omega arith, entry-asked (suc q) h (or-second (leb (length words) (4 + suc q)) (wrongEntry words (suc q)) wrong))
   of-bad r (last-body o) = (omega arith, rw (eq-eqb (countR words) (countR words) refl, badContents) (outside-iff 2 9 (length words - entry words (countR words - 1)) .1 o))
 
 pub contents-finds : (words : List ℕ) → Finds (BadContents words) (contentsStage .failsAt words)

@@ -1,7 +1,10 @@
 -- Check 4, FORM: "a right side has two adjacent nonterminals, or no terminal"; value: "first such rule".
+-- Document 01, "Refusal numbers", 4.
 -- One stage over two conditions, each named, so that a later call can ask one of them alone.
--- Rests on Words and Stages.
-use mathlib.Core.Path.{_≡_, refl, sym, ap, _∙_}
+-- Rests on Words, Stages and RightSides.
+--
+-- Main definitions: Adjacent, NoTerminal, BadForm, badForm, formStage, formCondition. Main statements: adjacent-iff, no-terminal-iff, form-finds.
+use mathlib.Core.Path.{_≡_, refl, sym, _∙_}
 use mathlib.Core.Bool.{Bool, true, false, _||_, false≢true}
 use mathlib.Core.Logic.{_↔_, _⊎_, inl, inr}
 use mathlib.Core.List.{List, [], _∷_, _++_}
@@ -15,6 +18,7 @@ use Rattle.language.specs.Symbols.{Symbol, terminal, nonterminal}
 use Rattle.language.specs.Grammar.{Rule, Grammar, ruleAt, Has}
 use Rattle.language.specs.Words.{grammarOf}
 use Rattle.language.specs.Stages.{Stage, Condition}
+use Rattle.language.specs.RightSides.{has-later}
 
 -- "two adjacent nonterminals"
 pub record Adjacent (w : List Symbol) : Type 0 where
@@ -51,11 +55,8 @@ formStage = record { refusal = Form; failsAt = λ words. firstBelow (badForm (gr
 abbrev pub formCondition : Condition (List ℕ)
 formCondition = record { stage = formStage; Holds = λ words. BadForm (grammarOf words) }
 
-has-after : {part w : List Symbol} (x : Symbol) → Has part w → Has part (x ∷ w)
-has-after x h = record { before = x ∷ h .before; after = h .after; is = ap {B = List Symbol} (λ z. x ∷ z) (h .is) }
-
 adjacent-after : {w : List Symbol} (x : Symbol) → Adjacent w → Adjacent (x ∷ w)
-adjacent-after x a = record { one = a .one; other = a .other; stand = has-after x (a .stand) }
+adjacent-after x a = record { one = a .one; other = a .other; stand = has-later x (a .stand) }
 
 to-adjacent : (w : List Symbol) → adjacent w ≡ true → Adjacent w
 to-adjacent [] e = absurd (false≢true e)
@@ -82,7 +83,7 @@ terminal-in (nonterminal k ∷ before) after a = terminal-in before after a
 of-none : (w : List Symbol) → NoTerminal w → noTerminal w ≡ true
 of-none [] n = refl
 of-none (terminal a ∷ w) n = absurd (n a (record { before = []; after = w; is = refl }))
-of-none (nonterminal k ∷ w) n = of-none w (λ a h. n a (has-after (nonterminal k) h))
+of-none (nonterminal k ∷ w) n = of-none w (λ a h. n a (has-later (nonterminal k) h))
 
 to-none : (w : List Symbol) → noTerminal w ≡ true → NoTerminal w
 to-none w e a h = false≢true (sym (rw (h .is) (terminal-in (h .before) (h .after) a)) ∙ e)

@@ -1,5 +1,8 @@
 -- Check 1, HEAD: "one of the first 4 words is absent or outside 1..63, 1..64, 1..N, 1..256"; value: "first such word".
+-- Document 01, "Refusal numbers", 1.
 -- Rests on Words and Stages.
+--
+-- Main definitions: BadHead, badHead, headStage, headCondition. Main statement: head-finds.
 use mathlib.Core.Path.{_≡_, refl}
 use mathlib.Core.Bool.{Bool, true, false, _||_}
 use mathlib.Core.Logic.{_⊎_, inl, inr}

@@ -2,6 +2,8 @@
 -- Document 01, "Sample rows": "Words: 5 2 2 5, 9 11 16 21 25, 0 1, 0 3 256 4 5, 0 3 257 4 5, 1 256 2 256, 1 257 2 256";
 -- "R = 257 -> 1, value 3; R = 256 passes the head."
 -- Rests on Checks.
+--
+-- Main definition: wordsK. Main statements: K-passes, head-256; head-257 and the others, one equation a refusal.
 use mathlib.Core.Path.{_≡_, refl}
 use mathlib.Core.List.{List, [], _∷_, _++_}
 use mathlib.Core.Option.{none}

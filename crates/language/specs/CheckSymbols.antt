@@ -1,5 +1,8 @@
 -- Check 3, SYMBOL: "a body word is no nonterminal (left) or no symbol"; value: "first such word place".
+-- Document 01, "Refusal numbers", 3.
 -- Rests on Words and Stages.
+--
+-- Main definitions: NoSymbol, BadSymbol, badSymbol, symbolStage, symbolCondition. Main statement: symbols-find.
 use mathlib.Core.Path.{_≡_, refl}
 use mathlib.Core.Bool.{Bool, true, false, _||_, _&&_}
 use mathlib.Core.Logic.{_⊎_, inl, inr}

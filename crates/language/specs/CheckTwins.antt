@@ -1,5 +1,8 @@
 -- Check 5, TWIN: "an earlier rule has the same right side"; value: "least rule for which this holds".
+-- Document 01, "Refusal numbers", 5.
 -- Rests on Words and Stages.
+--
+-- Main definitions: BadTwin, badTwin, twinStage, twinCondition. Main statement: twins-find.
 use mathlib.Core.Path.{_≡_}
 use mathlib.Core.Bool.{Bool, true, false}
 use mathlib.Core.List.{List}

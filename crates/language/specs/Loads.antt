@@ -79,7 +79,7 @@ loadedBytes (Refused refusal) words bytes = bytes
 unfoldable pub loadBytes : List ℕ → List ℕ → List ℕ
 loadBytes words bytes = loadedBytes (loadAnswer words (length bytes)) words bytes
 
-room-finds : (input : LoadInput) → Finds (NoRoomForMatrix input) (matrixRoom input)
+pub room-finds : (input : LoadInput) → Finds (NoRoomForMatrix input) (matrixRoom input)
 room-finds input = go (ltb (input .room) 4096) refl
   where
     go : (b : Bool) → ltb (input .room) 4096 ≡ b → Finds (NoRoomForMatrix input) (elim b [ true ↦ some 4096 | false ↦ none ])
@@ -214,7 +214,7 @@ leftSetAnswer words k = setOrRefusal (setChecked words k) (grammarOf words) k
 unfoldable pub rightSetAnswer : List ℕ → ℕ → SetAnswer
 rightSetAnswer words k = setOrRefusal (setChecked words k) (mirrored (grammarOf words)) k
 
-nonterminal-finds : (input : SetInput) → Finds (NoSuchNonterminal input) (pastTheLast input)
+pub nonterminal-finds : (input : SetInput) → Finds (NoSuchNonterminal input) (pastTheLast input)
 nonterminal-finds input = go (leb (countN (input .words)) (input .number)) refl
   where
     go : (b : Bool) → leb (countN (input .words)) (input .number) ≡ b → Finds (NoSuchNonterminal input) (elim b [ true ↦ some 0 | false ↦ none ])

@@ -9,7 +9,8 @@ use native.Mathlib.Omega.{arith}
 use lib.Dec.{lit<}
 use lib.ListN.{length, getD}
 use Rattle.language.specs.declared.Refusal.{Refusal}
-use Rattle.language.specs.declared.Refusal.the-variants.{Head, Contents, Symbol, Form, Twin, Conflict, Empty, TooLong, BadToken, BadCut, NoRoom, NoChunk, AtRest, NoJoin, BadState, Unfinished, NoRelation, NoRule, NotAxiom, SideBySide, NoNonterminal}
+use Rattle.language.specs.declared.Refusal.the-variants.{Head, Contents, Symbol, Form, Twin, Conflict, Empty, TooLong, BadToken, BadCut, NoRoom, NoChunk, AtRest, NoJoin}
+use Rattle.language.specs.declared.Refusal.the-variants.{BadState, Unfinished, NoRelation, NoRule, NotAxiom, SideBySide, NoNonterminal}
 use Rattle.language.specs.declared.Answer.{Answer}
 use Rattle.language.specs.declared.Answer.the-variants.{Done, Refused}
 use Rattle.language.specs.declared.SetAnswer.{SetAnswer}

@@ -2,6 +2,8 @@
 -- Document 01, "Numbers" and "The grammar words": terminals are 1 to T; 0 is the end mark #; nonterminals are 0 to N-1; in
 -- words a terminal is its number, nonterminal k is 256 + k. "Sets and matrix": yields (1), equal (2), takes (3), blank (0).
 -- Rests on laws' Tests.
+--
+-- Main definitions: Symbol, wordOf, symbolOf, sameString, Relation, relationNumber. Main statements: sameString-eq, sameString-refl.
 use mathlib.Core.Path.{_≡_, refl, ap, ap₂}
 use mathlib.Core.Bool.{Bool, true, false, _&&_, false≢true}
 use mathlib.Core.List.{List, [], _∷_}

@@ -4,14 +4,14 @@
 --
 -- Main definitions: flat, before.
 -- Main statements: set-part, getD-part (a word by its part and its place there), flat-split, flat-set, length-before, length-flat;
--- drop-past, getD-past (the same for words from some place on), cut-at, held-at.
+-- drop-past, getD-past (the same for words from some place on), cut-at, held-at; sets-append (stores in a row); part-slice (a part in the middle).
 use mathlib.Core.Path.{_≡_, refl, sym, ap, ap₂, _∙_}
 use mathlib.Core.List.{List, [], _∷_, _++_, append-assoc}
-use Prim.Native.Nat.{ℕ, zero, suc, _+_, _≤_, _<_}
-use native.Mathlib.Nat.{zero-add}
+use Prim.Native.Nat.{ℕ, zero, suc, _+_, _-_, _≤_, _<_}
+use native.Mathlib.Nat.{zero-add, add-zero}
 use native.Mathlib.Omega.{arith}
 use lib.ListN.{length, getD, take, drop, set, length-append, take-append-drop, List·getD-append}
-use lib.Seq.{set-append-left, getD-append-add, drop-drop, drop-at, getD-drop}
+use lib.Seq.{sets, slice, set-append-left, getD-append-add, take-add, drop-drop, drop-at, getD-drop, length-take-le}
 
 -- a store past the first list
 pub set-append-add : (p q : List ℕ) (i v : ℕ) → set (p ++ q) (length p + i) v ≡ p ++ set q i v
@@ -21,7 +21,7 @@ set-append-add (x ∷ p) q i v =
     rw (e, set-append-add p q i v)
 
 -- the parts one after the other
-abbrev pub flat : List (List ℕ) → List ℕ
+abbrev pub flat : {A : Type 0} → List (List A) → List A
 flat [] = []
 flat (p ∷ parts) = p ++ flat parts
 
@@ -88,3 +88,16 @@ cut-at words i k = sym (take-append-drop k (drop i words)) ∙ ap (λ l. take k 
 -- p, where it stands from word i on, and what stands from word j on after it
 pub held-at : (words : List ℕ) (i k j : ℕ) (p : List ℕ) → take k (drop i words) ≡ p → i + k ≡ j → drop i words ≡ p ++ drop j words
 held-at words i k j p h e = cut-at words i k ∙ ap₂ (λ l m. l ++ drop m words) h e
+
+-- words stored one after the other are stored at once
+pub sets-append : (words : List ℕ) (i : ℕ) (a b : List ℕ) → sets words i (a ++ b) ≡ sets (sets words i a) (i + length a) b
+sets-append words i [] b = rw (add-zero i)
+sets-append words i (x ∷ a) b =
+    let e : suc i + length a ≡ i + suc (length a) = omega arith in
+    sets-append (set words i x) (suc i) a b ∙ ap (λ (k : ℕ). sets (sets (set words i x) (suc i) a) k b) e
+
+-- the words from i up to j, by a place and a count
+pub part-slice : {A : Type 0} (i j : ℕ) (l : List A) → i ≤ j → j ≤ length l → take (j - i) (drop i l) ≡ slice i j l
+part-slice i j l h k =
+    let e : j ≡ i + (j - i) = omega arith in
+    sym (ap (λ n. drop i (take n l)) e ∙ ap (drop i) (take-add i (j - i) l) ∙ drop-at (take i l) (take (j - i) (drop i l)) i (length-take-le i l (omega arith)))

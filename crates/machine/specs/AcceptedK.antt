@@ -3,7 +3,6 @@
 -- Rests on TableOf, and on language's Loads, CheckSamples and Samples.
 --
 -- Main statements: K-accepted, K-laws, K-end-mark.
-use mathlib.Core.List.{[]}
 use lib.Dec.{lit<}
 use Rattle.language.specs.Words.{grammarOf}
 use Rattle.language.specs.Checks.{words-pass}
@@ -13,7 +12,7 @@ use Rattle.language.specs.Conflicts.{conflict-none}
 use Rattle.language.specs.Samples.{words-K, conflict-K}
 use Rattle.language.specs.Loads.{Accepted}
 use Rattle.machine.specs.Laws.{EndMark, Laws}
-use Rattle.machine.specs.TableOf.{ownTable, end-mark-of-words, laws-of-words}
+use Rattle.machine.specs.TableOf.{ownTable, own-end-mark, own-laws}
 
 pub K-accepted : Accepted wordsK
 K-accepted =
@@ -21,8 +20,8 @@ K-accepted =
     let range = in-range wordsK (passed .head) (passed .symbols) in
     record { passed = passed; free = conflict-none range (rw words-K (lit< tt)) .0 (rw words-K conflict-K) }
 
-pub K-end-mark : EndMark (ownTable wordsK K-accepted [])
-K-end-mark = end-mark-of-words wordsK K-accepted []
+pub K-end-mark : EndMark (ownTable wordsK)
+K-end-mark = own-end-mark K-accepted
 
-pub K-laws : Laws (grammarOf wordsK) (ownTable wordsK K-accepted [])
-K-laws = laws-of-words wordsK K-accepted []
+pub K-laws : Laws (grammarOf wordsK) (ownTable wordsK)
+K-laws = own-laws K-accepted

@@ -16,7 +16,8 @@ use Rattle.machine.specs.Entries.{Unread, terminalAt, Entry}
 use Rattle.machine.specs.Moves.{Table}
 use Rattle.machine.specs.Chunks.{Chunk, makes, turn}
 use Rattle.machine.specs.States.{State, became, step, join}
-use Rattle.machine.specs.Allowed.{TopmostTerminal, HandleAbove, Spelled, runs, ChunkMoves, rule-1-stuck, rule-1, rule-2, rule-3, rule-4-yields, rule-4-equal, rule-4-last, rule-4-stuck, rule-5, rule-5-stuck, rule-6, Live}
+use Rattle.machine.specs.Allowed.{TopmostTerminal, HandleAbove, Spelled, runs, ChunkMoves, rule-1-stuck, rule-1, rule-2, rule-3, rule-4-yields}
+use Rattle.machine.specs.Allowed.{rule-4-equal, rule-4-last, rule-4-stuck, rule-5, rule-5-stuck, rule-6, Live}
 use Rattle.machine.specs.AllowedExactly.{turn-exactly, live-to, step-exactly, join-exactly}
 
 module _ {Value : Type 0} (table : Table Value) where

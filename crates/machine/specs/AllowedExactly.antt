@@ -16,19 +16,21 @@ use lib.Dec.{eqb}
 use lib.ListN.{length, getD, set, take, drop}
 use lib.Seq.{getD-at, set-at, take-at}
 use borrow.Author.Tests.{eqb-true, eq-eqb}
+use Rattle.laws.specs.Tests.{false-unless}
 use Rattle.language.specs.Symbols.{Symbol, takes}
 use Rattle.language.specs.Trees.{Reduction}
 use Rattle.language.specs.declared.Refusal.the-variants.{NoChunk, AtRest, NoJoin}
-use Rattle.machine.specs.Entries.{Unread, terminalAt, nonterminalAt, Entry, terminalOn, nonterminalOn, symbol, valueOf, stackSymbols, topTerminal, topIsNonterminal, Handle, handleOf}
-use Rattle.machine.specs.Moves.{Table, noRule, Action, isWhole, Moved, by-rule-1-stuck, by-rule-1, by-rule-2, by-rule-3, by-rule-4-yields, by-rule-4-equal, by-rule-4-last, by-rule-4-stuck, by-rule-5, by-rule-5-stuck, by-rule-6, moved}
+use Rattle.machine.specs.Entries.{Unread, terminalAt, nonterminalAt, Entry, terminalOn, nonterminalOn, symbol, valueOf}
+use Rattle.machine.specs.Entries.{stackSymbols, topTerminal, topIsNonterminal, Handle, handleOf}
+use Rattle.machine.specs.Moves.{Table, noRule, Action, isWhole, Moved, by-rule-1-stuck, by-rule-1, by-rule-2, by-rule-3, by-rule-4-yields}
+use Rattle.machine.specs.Moves.{by-rule-4-equal, by-rule-4-last, by-rule-4-stuck, by-rule-5, by-rule-5-stuck, by-rule-6, moved}
 use Rattle.machine.specs.Chunks.{Status, running, stuck, Chunk, Turn, rests, makes, restsSo, atRest, done, turn, joined}
 use Rattle.machine.specs.States.{State, Called, refused, became, Next, stepBy, step, nextLive, under, joinWith, join}
-use Rattle.machine.specs.Allowed.{TopmostTerminal, on-top, under-nonterminal, NoTerminal, no-symbol, a-nonterminal, TopNonterminal, top-nonterminal, NoMark, empty-stack, over-unmarked, over-nonterminal, HandleAbove, from-nonterminal, from-mark, up-to-unmarked, up-to-nonterminal, Spelled, spelled-nothing, spelled-terminal, spelled-nonterminal, SymbolsOf, of-nothing, of-terminal, of-nonterminal, runs, isStuck, IsAtRest, being-stuck, nothing-to-read, EndAndAxiom, end-and-axiom, ChunkMoves, rule-1-stuck, rule-1, rule-2, rule-3, rule-4-yields, rule-4-equal, rule-4-last, rule-4-stuck, rule-5, rule-5-stuck, rule-6, Joins, AllGone, no-number, one-gone, Live, NextLive, Steps, JoinsAt}
-
--- what is not true is false
-pub not-so : (t : Bool) → (t ≡ true → ⊥) → t ≡ false
-not-so true h = absurd (h refl)
-not-so false h = refl
+use Rattle.machine.specs.Allowed.{TopmostTerminal, on-top, under-nonterminal, NoTerminal, no-symbol, a-nonterminal, TopNonterminal, top-nonterminal, NoMark, empty-stack}
+use Rattle.machine.specs.Allowed.{over-unmarked, over-nonterminal, HandleAbove, from-nonterminal, from-mark, up-to-unmarked, up-to-nonterminal, Spelled, spelled-nothing}
+use Rattle.machine.specs.Allowed.{spelled-terminal, spelled-nonterminal, SymbolsOf, of-nothing, of-terminal, of-nonterminal, runs, isStuck, IsAtRest, being-stuck}
+use Rattle.machine.specs.Allowed.{nothing-to-read, EndAndAxiom, end-and-axiom, ChunkMoves, rule-1-stuck, rule-1, rule-2, rule-3, rule-4-yields, rule-4-equal, rule-4-last}
+use Rattle.machine.specs.Allowed.{rule-4-stuck, rule-5, rule-5-stuck, rule-6, Joins, AllGone, no-number, one-gone, Live, NextLive, Steps, JoinsAt}
 
 -- Each predicate on a stack is what the machine's function computes.
 
@@ -76,6 +78,13 @@ module _ {Value : Type 0} where
   handle-to (from-mark {a = a} {v = v} {below = below} h) above = mark-to a v below h above
   handle-to (up-to-unmarked {a = a} {v = v} h) above = rw append-assoc (handle-to h (terminalAt a v ∷ above))
   handle-to (up-to-nonterminal {k = k} {v = v} h) above = rw append-assoc (handle-to h (nonterminalAt k v ∷ above))
+
+  -- a handle is the top part of its stack
+  pub handle-symbols : {stack handle below : List (Entry Value)} → HandleAbove stack handle below → stackSymbols stack ≡ stackSymbols below ++ stackSymbols handle
+  handle-symbols from-nonterminal = simp append-assoc
+  handle-symbols (from-mark h) = refl
+  handle-symbols (up-to-unmarked a) = rw (handle-symbols a) (simp append-assoc)
+  handle-symbols (up-to-nonterminal a) = rw (handle-symbols a) (simp append-assoc)
 
   -- a stack's handle, as the machine finds it with these symbols above
   pub data HandleView (stack : List (Entry Value)) (above : List (Unread Value)) : Option (Handle Value) → Type 0 where
@@ -135,7 +144,7 @@ module _ {Value : Type 0} where
       go running (b ∷ unread) q = absurd (false≢true q)
 
   pub not-at-rest-to : (c : Chunk Value) → (IsAtRest c → ⊥) → atRest c ≡ false
-  not-at-rest-to c h = not-so (atRest c) (λ q. h (rests-from c q))
+  not-at-rest-to c h = false-unless (atRest c) (λ q. h (rests-from c q))
 
 -- One chunk: its turn is a move by one of the rules, or it rests.
 
@@ -167,13 +176,13 @@ module _ {Value : Type 0} (table : Table Value) where
 
   turn-to : {c c′ : Chunk Value} {made : List (Reduction Value)} → ChunkMoves table c made c′ → turn table c ≡ makes made c′
   turn-to (rule-1-stuck top) = rw (top-nonterminal-to top)
-  turn-to (rule-1 {stack = stack} else) = rw (not-so (topIsNonterminal stack) (λ q. else (top-nonterminal-from stack q)))
+  turn-to (rule-1 {stack = stack} else) = rw (false-unless (topIsNonterminal stack) (λ q. else (top-nonterminal-from stack q)))
   turn-to (rule-2 none-on) = rw (no-terminal-to none-on)
   turn-to (rule-3 top r) = rw (topmost-to top, r)
   turn-to (rule-4-yields top r) = rw (topmost-to top, r)
-  turn-to (rule-4-equal {a = a} {b = b} top r not-ends) = rw (topmost-to top, r, not-so (eqb a 0 && eqb b 0) (λ q. not-ends (ends-from a b q)))
+  turn-to (rule-4-equal {a = a} {b = b} top r not-ends) = rw (topmost-to top, r, false-unless (eqb a 0 && eqb b 0) (λ q. not-ends (ends-from a b q)))
   turn-to (rule-4-last top r whole) = rw (topmost-to top, r, whole-to whole)
-  turn-to (rule-4-stuck {stack = stack} top r else) = rw (topmost-to top, r, not-so (isWhole table stack) (λ q. else (whole-from stack q)))
+  turn-to (rule-4-stuck {stack = stack} top r else) = rw (topmost-to top, r, false-unless (isWhole table stack) (λ q. else (whole-from stack q)))
   turn-to (rule-5 top r handle spelled m) = rw (topmost-to top, r, handle-to handle [], append-nil, spelled-to spelled .0, m, spelled-to spelled .1)
   turn-to (rule-5-stuck top r handle spelled m) = rw (topmost-to top, r, handle-to handle [], append-nil, spelled-to spelled .0, m)
   turn-to (rule-6 top r unmarked) = rw (topmost-to top, r, no-mark-to unmarked [])

@@ -6,22 +6,25 @@
 --
 -- Main definitions: potential, Falls, mostMoves.
 -- Main statements: potential-falls, falls-kept, moves-bounded (moves and potential together never grow), falls-start,
--- potential-start, bounded.
+-- potential-start, bounded. Counts of symbols: terminals-append, terminals-of-stack, length-of-stack.
 use mathlib.Core.Path.{_≡_, refl, ap}
 use mathlib.Core.List.{List, [], _∷_, _++_, map}
+use mathlib.Core.Option.{some}
 use Prim.Native.Nat.{ℕ, zero, suc, _+_, _*_, _-_, _≤_, _<_, pred}
 use native.Mathlib.Nat.{mul-le-mul-right}
 use native.Mathlib.Omega.{arith}
 use lib.ListN.{length, length-append}
+use Rattle.laws.specs.Parts.{flat}
 use Rattle.language.specs.Trees.{Span, Reduction}
-use Rattle.machine.specs.Entries.{Unread, terminalAt, nonterminalAt, Entry, terminalOn, nonterminalOn, unmarked, stackSymbols}
+use Rattle.machine.specs.Entries.{Unread, terminalAt, nonterminalAt, Entry, terminalOn, nonterminalOn, unmarked, stackSymbols, topTerminal}
 use Rattle.machine.specs.Moves.{Table, reads, replaces, move, Moved, by-rule-1, by-rule-2, by-rule-4-yields, by-rule-4-equal, by-rule-4-last, by-rule-5, by-rule-6, moved}
 use Rattle.machine.specs.Laws.{EndMark}
 use Rattle.machine.specs.Chunks.{Status, running, stuck, Chunk, joined}
 use Rattle.machine.specs.States.{State, live, unreadFrom, start}
 use Rattle.machine.specs.RunsEnd.{terminalsOn, terminalsUnread, terminals-cons, MarksFine, fine-empty, fine-unmarked, on-reading, on-replacing}
-use Rattle.machine.specs.Schedules.{firstStack, Turned, Schedule, Made, has-read, has-replaced, got-stuck, Changed, moves-one, joins-two, further, Changes, no-change, one-change, listed, schedule-listed}
-use Rattle.machine.specs.Starts.{NoEnd, together, firstChunk, laterChunk, begun}
+use Rattle.machine.specs.Schedules.{firstStack, Turned, Schedule, Made, has-read, has-replaced, got-stuck, Changed, moves-one, joins-two}
+use Rattle.machine.specs.Schedules.{further, Changes, no-change, one-change, listed, schedule-listed, some-left}
+use Rattle.machine.specs.Starts.{NoEnd, firstChunk, laterChunk, row-length, begun}
 
 -- 1 for a chunk that is not stuck
 abbrev pub oneIfRunning : Status → ℕ
@@ -29,17 +32,17 @@ oneIfRunning running = 1
 oneIfRunning (stuck why) = 0
 
 module _ {Value : Type 0} where
-  terminals-append : (s t : List (Unread Value)) → terminalsUnread (s ++ t) ≡ terminalsUnread s + terminalsUnread t
+  pub terminals-append : (s t : List (Unread Value)) → terminalsUnread (s ++ t) ≡ terminalsUnread s + terminalsUnread t
   terminals-append [] t = omega arith
   terminals-append (terminalAt a v ∷ s) t = omega (arith, terminals-append s t)
   terminals-append (nonterminalAt k v ∷ s) t = terminals-append s t
 
-  terminals-of-stack : (s : List (Entry Value)) → terminalsUnread (stackSymbols s) ≡ terminalsOn s
+  pub terminals-of-stack : (s : List (Entry Value)) → terminalsUnread (stackSymbols s) ≡ terminalsOn s
   terminals-of-stack [] = refl
   terminals-of-stack (terminalOn mark a v ∷ s) = omega (arith, terminals-append (stackSymbols s) (terminalAt a v ∷ []), terminals-of-stack s)
   terminals-of-stack (nonterminalOn k v ∷ s) = omega (arith, terminals-append (stackSymbols s) (nonterminalAt k v ∷ []), terminals-of-stack s)
 
-  length-of-stack : (s : List (Entry Value)) → length (stackSymbols s) ≡ length s
+  pub length-of-stack : (s : List (Entry Value)) → length (stackSymbols s) ≡ length s
   length-of-stack [] = refl
   length-of-stack (x ∷ s) = omega (arith, length-append (stackSymbols s) (unmarked x ∷ []), length-of-stack s)
 
@@ -101,12 +104,26 @@ number-start : (u s t r k n j : ℕ) → u ≡ suc n → s ≡ suc (suc n) → t
     → u + pred s * pred k + t + 2 * pred k + r ≡ mostMoves n (suc j)
 number-start u s t r k n j a b c d e = rw (a, b, c, d, e) (omega arith)
 
+top-some : {Value : Type 0} (stack : List (Entry Value)) {a : ℕ} → topTerminal stack ≡ some a → 0 < length stack
+top-some [] q = let z : _≡_ {A = ℕ} 0 1 = cc in absurd (omega arith)
+top-some (e ∷ stack) q = omega arith
+
+module _ {Value : Type 0} {table : Table Value} where
+  -- a stack that has read a symbol is not empty
+  pub reading-fills : {stack stack′ : List (Entry Value)} {b : Unread Value} → Moved table stack b (reads stack′) → 0 < length stack′
+  reading-fills (by-rule-1 h) = omega arith
+  reading-fills (by-rule-2 t) = omega arith
+  reading-fills (by-rule-4-yields t r) = omega arith
+  reading-fills (by-rule-4-equal t r i) = omega arith
+  reading-fills {stack} (by-rule-4-last t r i w) = top-some stack t
+  reading-fills (by-rule-6 t r q) = omega arith
+
 module _ {Value : Type 0} (table : Table Value) (ends : EndMark table) where
-  record Kept (chunks chunks′ : List (Chunk Value)) : Type 0 where
+  record ChangeKept (chunks chunks′ : List (Chunk Value)) : Type 0 where
     change : Change chunks chunks′
     fine : AllFine chunks′
 
-  kept : {chunks chunks′ : List (Chunk Value)} {made : List (Reduction Value)} → AllFine chunks → Changed table chunks made chunks′ → Kept chunks chunks′
+  kept : {chunks chunks′ : List (Chunk Value)} {made : List (Reduction Value)} → AllFine chunks → Changed table chunks made chunks′ → ChangeKept chunks chunks′
   kept (all-fine-cons o os) (moves-one (has-read {stack = stack} {unread = unread} b h)) =
       let z = on-reading table ends o (rw h at (moved table stack b)) in
       record { change = own (omega (arith, z .terminals, terminals-cons b unread)) (omega (arith, z .size)) refl; fine = all-fine-cons (z .fine) os }
@@ -126,7 +143,7 @@ module _ {Value : Type 0} (table : Table Value) (ends : EndMark table) where
       more (own a b e) = own (omega arith) (omega arith) (ap suc e)
       more (join d a b e f g h) = join d (omega arith) (omega arith) (omega arith) (omega arith) (omega arith) (ap suc h)
 
-      go : Kept chunks chunks′ → Kept (c ∷ chunks) (c ∷ chunks′)
+      go : ChangeKept chunks chunks′ → ChangeKept (c ∷ chunks) (c ∷ chunks′)
       go k = record { change = more (k .change); fine = all-fine-cons o (k .fine) }
 
   falls-in : {chunks chunks′ : List (Chunk Value)} → Change chunks chunks′ → 0 < length (firstStack chunks) → 0 < length chunks′
@@ -138,25 +155,12 @@ module _ {Value : Type 0} (table : Table Value) (ends : EndMark table) where
       rw (e, f, h) (number-join (unreadIn chunks) (unreadIn chunks′) (symbolsIn chunks) d (terminalsIn chunks) (runningIn chunks) (runningIn chunks′)
       (length chunks′) a (omega arith) g l)
 
-  some-live : {chunks chunks′ : List (Chunk Value)} {made : List (Reduction Value)} → Changed table chunks made chunks′ → 0 < length chunks′
-  some-live (moves-one m) = omega arith
-  some-live (joins-two a b) = omega arith
-  some-live (further m) = omega arith
-
-  reading-fills : {stack stack′ : List (Entry Value)} {b : Unread Value} → Moved table stack b (reads stack′) → 0 < length stack → 0 < length stack′
-  reading-fills (by-rule-1 h) l = omega arith
-  reading-fills (by-rule-2 t) l = omega arith
-  reading-fills (by-rule-4-yields t r) l = omega arith
-  reading-fills (by-rule-4-equal t r i) l = omega arith
-  reading-fills (by-rule-4-last t r i w) l = l
-  reading-fills (by-rule-6 t r q) l = omega arith
-
   replacing-fills : {stack stack′ : List (Entry Value)} {b : Unread Value} {r : ℕ} {v : Value} → Moved table stack b (replaces r v stack′) → 0 < length stack′
   replacing-fills (by-rule-5 h t k q m) = omega arith
 
   first-kept : {chunks chunks′ : List (Chunk Value)} {made : List (Reduction Value)} → Changed table chunks made chunks′ → 0 < length (firstStack chunks)
       → 0 < length (firstStack chunks′)
-  first-kept (moves-one (has-read {stack = stack} b h)) l = reading-fills (rw h at (moved table stack b)) l
+  first-kept (moves-one (has-read {stack = stack} b h)) l = reading-fills (rw h at (moved table stack b))
   first-kept (moves-one (has-replaced {stack = stack} b h)) l = replacing-fills (rw h at (moved table stack b))
   first-kept (moves-one (got-stuck b h)) l = l
   first-kept (joins-two a b) l = l
@@ -165,7 +169,7 @@ module _ {Value : Type 0} (table : Table Value) (ends : EndMark table) where
   -- on lists of chunks
   pub list-falls : {chunks chunks′ : List (Chunk Value)} {made : List (Reduction Value)} → Falls chunks → Changed table chunks made chunks′
       → potentialIn chunks′ < potentialIn chunks
-  list-falls f m = falls-in (kept (f .fine) m .change) (f .first) (some-live m)
+  list-falls f m = falls-in (kept (f .fine) m .change) (f .first) (some-left table m)
 
   pub list-falls-kept : {chunks chunks′ : List (Chunk Value)} {made : List (Reduction Value)} → Falls chunks → Changed table chunks made chunks′ → Falls chunks′
   list-falls-kept f m = record { first = first-kept m (f .first); fine = kept (f .fine) m .fine }
@@ -197,9 +201,9 @@ falls-start tokens cuts =
     rw (b .chunks) (record { first = omega arith; fine = all-fine-cons (fine-unmarked fine-empty) (fine-later (b .rest)) })
 
 record Sums (pieces : List (List (Unread Span))) : Type 0 where
-  unread : unreadIn (map laterChunk pieces) ≡ length (together pieces)
-  symbols : symbolsIn (map laterChunk pieces) ≡ length (together pieces)
-  terminals : terminalsIn (map laterChunk pieces) ≡ terminalsUnread (together pieces)
+  unread : unreadIn (map laterChunk pieces) ≡ length (flat pieces)
+  symbols : symbolsIn (map laterChunk pieces) ≡ length (flat pieces)
+  terminals : terminalsIn (map laterChunk pieces) ≡ terminalsUnread (flat pieces)
   running : runningIn (map laterChunk pieces) ≡ length pieces
   number : length (map laterChunk pieces) ≡ length pieces
 
@@ -207,17 +211,13 @@ sums : (pieces : List (List (Unread Span))) → Sums pieces
 sums [] = record { unread = refl; symbols = refl; terminals = refl; running = refl; number = refl }
 sums (piece ∷ pieces) =
     let k = sums pieces in
-    let l = length-append piece (together pieces) in
-    let t = terminals-append piece (together pieces) in
+    let l = length-append piece (flat pieces) in
+    let t = terminals-append piece (flat pieces) in
     record { unread = omega arith; symbols = omega arith; terminals = omega arith; running = omega arith; number = omega arith }
 
 row-terminals : (i : ℕ) (tokens : List ℕ) → NoEnd tokens → terminalsUnread (unreadFrom i tokens) ≡ length tokens
 row-terminals i [] h = refl
 row-terminals i (a ∷ tokens) h = rw (h .0) (omega (arith, row-terminals (suc i) tokens (h .1)))
-
-row-length : (i : ℕ) (tokens : List ℕ) → length (unreadFrom i tokens) ≡ suc (length tokens)
-row-length i [] = refl
-row-length i (a ∷ tokens) = ap suc (row-length (suc i) tokens)
 
 -- C is one more than the cuts
 pub potential-start : (tokens cuts : List ℕ) → NoEnd tokens
@@ -225,8 +225,8 @@ pub potential-start : (tokens cuts : List ℕ) → NoEnd tokens
 potential-start tokens cuts h =
     let b = begun tokens cuts in
     let k = sums (b .rest) in
-    let l = length-append (b .piece) (together (b .rest)) in
-    let t = terminals-append (b .piece) (together (b .rest)) in
+    let l = length-append (b .piece) (flat (b .rest)) in
+    let t = terminals-append (b .piece) (flat (b .rest)) in
     let r = row-length 0 tokens in
     let q = row-terminals 0 tokens h in
     let e = ap length (b .row) in

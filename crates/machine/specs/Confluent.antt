@@ -3,11 +3,11 @@
 -- Demand 3. Document 01: "The front-to-back parse is C = 1"; "A stuck place is that of the unread b"; "If c was stuck it stays
 -- so with its refusal; a stuck right side is forgotten"; "a report writes just these reductions, put in order, and gives this
 -- count". The cuts are any numbers at all, and the table any table; `same-outcome` asks of it that nothing yields to #.
--- Rests on LaterChunks, Progress, RunsEnd, and on language's ReportOrder.
+-- Rests on LaterChunks, Starts, Progress, RunsEnd, and on language's ReportOrder.
 --
 -- Main definitions: outcomeOfRun, withoutMoves. Main statements: always-same, confluent (against the run of one stack over the
 -- whole row), stuck-answer, same-outcome (of any two ways to cut and to order), uncut-outcome (of which one is uncut).
-use mathlib.Core.Path.{_≡_, refl, ap, _∙_}
+use mathlib.Core.Path.{_≡_, refl, _∙_}
 use mathlib.Core.Bool.{true, false≢true}
 use mathlib.Core.List.{List, [], _∷_, _++_, append-nil, map, List·Permᴰ}
 use Prim.Native.Nat.{ℕ, suc, _+_}
@@ -23,10 +23,12 @@ use Rattle.machine.specs.Chunks.{running, stuck, Chunk, atRest, joined}
 use Rattle.machine.specs.States.{State, live, unreadFrom, start, Outcome, refusedRow, reported, refusalOf, outcomeOf, outcome}
 use Rattle.machine.specs.Runs.{Out, over, stuckAt, Ends, nothing-unread, sticking, then-reading, then-replacing}
 use Rattle.machine.specs.RunsEnd.{fine-empty, fine-unmarked, SomeEnd, run-ends}
-use Rattle.machine.specs.Schedules.{firstStack, Schedule, Made, has-read, has-replaced, got-stuck, Changed, moves-one, joins-two, further, Changes, no-change, one-change, schedule-listed}
-use Rattle.machine.specs.Starts.{NoEnd, together, bottom, firstChunk, laterChunk, begun}
+use Rattle.machine.specs.Schedules.{firstStack, Schedule, Made, has-read, has-replaced, got-stuck, Changed, moves-one, joins-two}
+use Rattle.machine.specs.Schedules.{further, Changes, no-change, one-change, schedule-listed}
+use Rattle.machine.specs.Starts.{NoEnd, bottom, firstChunk, laterChunk, later-symbols, begun}
 use Rattle.machine.specs.Progress.{Answered, answered-rests}
-use Rattle.machine.specs.LaterChunks.{later-empty, EndLast, end-last, end-later, continuation, ahead, AllLater, all-later-nil, all-later-cons, SameEnd, refuses-alike, ends-alike, Whole, whole, changes-same}
+use Rattle.machine.specs.LaterChunks.{later-empty, EndLast, end-last, end-later, ahead, AllLater, all-later-nil, all-later-cons}
+use Rattle.machine.specs.LaterChunks.{SameEnd, refuses-alike, ends-alike, WholeRow, whole, changes-same}
 
 -- what a run of one stack over the whole row answers
 abbrev pub outcomeOfRun : Out Span → List (Reduction Span) → ℕ → Outcome
@@ -39,21 +41,21 @@ withoutMoves (reported reductions moves) = reported reductions 0
 
 module _ {Value : Type 0} (table : Table Value) where
   -- a stuck chunk is stuck at its next symbol, and so
-  pub data Stands : Chunk Value → Type 0 where
-    stands-running : {stack : List (Entry Value)} {unread : List (Unread Value)} → Stands (record { stack = stack; unread = unread; status = running })
+  pub data ChunkStands : Chunk Value → Type 0 where
+    stands-running : {stack : List (Entry Value)} {unread : List (Unread Value)} → ChunkStands (record { stack = stack; unread = unread; status = running })
     stands-stuck : {stack : List (Entry Value)} {unread : List (Unread Value)} {why : Stuck} (b : Unread Value) → move table stack b ≡ sticks why
-        → Stands (record { stack = stack; unread = b ∷ unread; status = stuck why })
+        → ChunkStands (record { stack = stack; unread = b ∷ unread; status = stuck why })
 
   pub data AllStand : List (Chunk Value) → Type 0 where
     all-stand-nil : AllStand []
-    all-stand-cons : {c : Chunk Value} {chunks : List (Chunk Value)} → Stands c → AllStand chunks → AllStand (c ∷ chunks)
+    all-stand-cons : {c : Chunk Value} {chunks : List (Chunk Value)} → ChunkStands c → AllStand chunks → AllStand (c ∷ chunks)
 
-  made-stands : {c c′ : Chunk Value} {made : List (Reduction Value)} → Made table c made c′ → Stands c′
+  made-stands : {c c′ : Chunk Value} {made : List (Reduction Value)} → Made table c made c′ → ChunkStands c′
   made-stands (has-read b h) = stands-running
   made-stands (has-replaced b h) = stands-running
   made-stands (got-stuck b h) = stands-stuck b h
 
-  joined-stands : {c : Chunk Value} (d : Chunk Value) → Stands c → Stands (joined c d)
+  joined-stands : {c : Chunk Value} (d : Chunk Value) → ChunkStands c → ChunkStands (joined c d)
   joined-stands d stands-running = stands-running
   joined-stands d (stands-stuck b h) = stands-stuck b h
 
@@ -111,19 +113,17 @@ module _ (table : Table Span) (tokens cuts : List ℕ) where
   stand-all [] = all-stand-nil
   stand-all (piece ∷ pieces) = all-stand-cons stands-running (stand-all pieces)
 
-  continuation-of : (pieces : List (List (Unread Span))) → continuation (map laterChunk pieces) ≡ together pieces
-  continuation-of [] = refl
-  continuation-of (piece ∷ pieces) = ap (λ rest. piece ++ rest) (continuation-of pieces)
-
   row-end-last : (i : ℕ) (tokens : List ℕ) → NoEnd tokens → EndLast (unreadFrom i tokens)
   row-end-last i [] h = end-last
   row-end-last i (a ∷ tokens) h = end-later (h .0) (row-end-last (suc i) tokens (h .1))
 
   start-ahead : ahead (live (start tokens cuts .chunks)) ≡ unreadFrom 0 tokens
-  start-ahead = let b = begun tokens cuts in rw (b .chunks, continuation-of (b .rest)) (b .row)
+  start-ahead = let b = begun tokens cuts in rw (b .chunks, later-symbols (b .rest)) (b .row)
 
-  start-whole : NoEnd tokens → Whole table (live (start tokens cuts .chunks))
-  start-whole h = let b = begun tokens cuts in rw (b .chunks) (whole {c = firstChunk (b .piece)} (later-all (b .rest)) (rw (continuation-of (b .rest), b .row) (row-end-last 0 tokens h)))
+  start-whole : NoEnd tokens → WholeRow table (live (start tokens cuts .chunks))
+  start-whole h =
+      let b = begun tokens cuts in
+      rw (b .chunks) (whole {c = firstChunk (b .piece)} (later-all (b .rest)) (rw (later-symbols (b .rest), b .row) (row-end-last 0 tokens h)))
 
   start-stands : AllStand table (live (start tokens cuts .chunks))
   start-stands = let b = begun tokens cuts in rw (b .chunks) (all-stand-cons stands-running (stand-all (b .rest)))
@@ -146,8 +146,8 @@ outcome-of : (s : State Span) {c : Chunk Span} {n : ℕ} → live (s .chunks) �
 outcome-of s q m = rw (q, m)
 
 module _ (table : Table Span) where
-  ending : {c : Chunk Span} {made L : List (Reduction Span)} {o : Out Span} (n : ℕ) → AllStand table (c ∷ []) → atRest c ≡ true → SameEnd table (c .stack) (c .unread ++ []) made L o
-      → outcomeOf (c .status) (c .unread) made n ≡ outcomeOfRun o L n
+  ending : {c : Chunk Span} {made L : List (Reduction Span)} {o : Out Span} (n : ℕ) → AllStand table (c ∷ []) → atRest c ≡ true
+      → SameEnd table (c .stack) (c .unread ++ []) made L o → outcomeOf (c .status) (c .unread) made n ≡ outcomeOfRun o L n
   ending n (all-stand-cons (stands-running {unread = []}) all) a (refuses-alike why v z e) = let h = over-now table e .0 in let z : _≡_ {A = ℕ} 0 1 = cc in absurd (omega arith)
   ending {made = made} {L = L} n (all-stand-cons (stands-running {unread = []}) all) a (ends-alike {L′ = L′} p e) =
       let h : L′ ≡ [] = over-now table e .1 in

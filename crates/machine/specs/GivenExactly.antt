@@ -22,9 +22,12 @@ use Rattle.language.specs.Reports.{putInOrder}
 use Rattle.machine.specs.Entries.{Unread, terminalAt, nonterminalAt}
 use Rattle.machine.specs.Moves.{Table, Stuck, noRelation, noRule, notAxiom, sideBySide}
 use Rattle.machine.specs.Chunks.{Status, running, stuck, Chunk, atRest}
-use Rattle.machine.specs.States.{State, Called, refused, became, Ran, refusedRun, ran, Next, step, moving, run, nextLive, joinWith, join, live, Outcome, refusedRow, reported, placeOf, refusalOf, outcomeOf, outcome}
+use Rattle.machine.specs.States.{State, Called, refused, became, Ran, refusedRun, ran, Next, step, moving, run, nextLive, joinWith, join, live}
+use Rattle.machine.specs.States.{Outcome, refusedRow, reported, placeOf, refusalOf, outcomeOf, outcome}
 use Rattle.machine.specs.Allowed.{IsAtRest, AllGone, no-number, one-gone, Live, NextLive}
-use Rattle.machine.specs.AllowedExactly.{rests-to, rests-from, not-at-rest-to, turn-rests, live-to, live-drop, next-to, none-next, LiveView, is-live, not-live, live-view, StepView, no-such-chunk, was-at-rest, steps-so, step-view, JoinView, no-left, no-right, left-moves, right-moves, joins-so, NextView, is-next, no-next, next-view, join-view}
+use Rattle.machine.specs.AllowedExactly.{rests-to, rests-from, not-at-rest-to, turn-rests, live-to, live-drop, next-to, none-next, LiveView, is-live, not-live, live-view}
+use Rattle.machine.specs.AllowedExactly.{StepView, no-such-chunk, was-at-rest, steps-so, step-view, JoinView, no-left, no-right, left-moves, right-moves, joins-so, NextView}
+use Rattle.machine.specs.AllowedExactly.{is-next, no-next, next-view, join-view}
 
 module _ {Value : Type 0} where
   -- chunk c is live and at rest
@@ -258,7 +261,7 @@ pub record ReportedSo (s : State Span) (report : List (Reduction Span)) (moves :
   pub moves-are : moves ≡ s .moves
 
 -- a refusal of a stuck row tells why and where it is stuck
-value-stuck : (why : Stuck) (place : ℕ) → valueOf (refusalOf why place) ≡ place
+pub value-stuck : (why : Stuck) (place : ℕ) → valueOf (refusalOf why place) ≡ place
 value-stuck noRelation place = refl
 value-stuck noRule place = refl
 value-stuck notAxiom place = refl

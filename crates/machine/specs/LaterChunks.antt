@@ -6,9 +6,9 @@
 -- comes to that terminal gets stuck before, or pushes the handle as the chunk did and replaces it at the same symbol (`swap`).
 -- The chunk's stack tells that it does: a marked terminal was yielded to by the one below it, and an unmarked one with a mark
 -- below it is equal to the one below it.
--- Rests on Runs and Schedules.
+-- Rests on Runs, Schedules and Starts.
 --
--- Main definitions: Later, EndLast, continuation, Whole, SameEnd. Main statements: later-same, changed-same, changes-same.
+-- Main definitions: Later, EndLast, ahead, WholeRow, SameEnd. Main statements: later-same, changed-same, changes-same.
 use mathlib.Core.Path.{_≡_, refl, sym, ap, _∙_}
 use mathlib.Core.Bool.{Bool, true, false, true≢false, false≢true, _&&_}
 use mathlib.Core.List.{List, [], _∷_, _++_, append-assoc, append-nil, map, List·Permᴰ, List·Permᴰ·trans, Permᴰ·refl, Permᴰ·middle, Permᴰ·append-left}
@@ -18,11 +18,15 @@ use native.Mathlib.Omega.{arith}
 use lib.Dec.{eqb}
 use Rattle.language.specs.Symbols.{yields, equal, takes}
 use Rattle.language.specs.Trees.{Reduction}
-use Rattle.machine.specs.Entries.{Unread, terminalAt, nonterminalAt, Entry, terminalOn, nonterminalOn, symbol, valueOf, stackSymbols, topTerminal, topIsNonterminal, Handle, handleOf}
-use Rattle.machine.specs.Moves.{Table, Stuck, reads, replaces, move, Moved, by-rule-1, by-rule-2, by-rule-4-yields, by-rule-4-equal, by-rule-4-last, by-rule-5, by-rule-6, moved}
-use Rattle.machine.specs.Segments.{top-above, symbolsOf, valuesOf, map-symbol, map-valueOf, Segment, nothing-yet, nonterminal-on, marked-on, equal-on, top-of-segment, handle-of-segment}
+use Rattle.machine.specs.Entries.{Unread, terminalAt, nonterminalAt, Entry, terminalOn, nonterminalOn, symbol, valueOf}
+use Rattle.machine.specs.Entries.{stackSymbols, topTerminal, topIsNonterminal, Handle, handleOf}
+use Rattle.machine.specs.Moves.{Table, Stuck, reads, replaces, move, Moved, by-rule-1, by-rule-2, by-rule-4-yields}
+use Rattle.machine.specs.Moves.{by-rule-4-equal, by-rule-4-last, by-rule-5, by-rule-6, moved}
+use Rattle.machine.specs.Segments.{top-above, symbolsOf, valuesOf, map-symbol, map-valueOf, Segment, nothing-yet, nonterminal-on}
+use Rattle.machine.specs.Segments.{marked-on, equal-on, top-of-segment, handle-of-segment}
 use Rattle.machine.specs.Runs.{Out, stuckAt, Ends, after-reading, after-replacing, Top, Swapped, stuck-before, reached, swap}
 use Rattle.machine.specs.Chunks.{Chunk}
+use Rattle.machine.specs.Starts.{symbolsAlong}
 use Rattle.machine.specs.Schedules.{firstStack, Made, has-read, has-replaced, got-stuck, Changed, moves-one, joins-two, further, Changes, no-change, one-change}
 
 module _ {Value : Type 0} where
@@ -159,15 +163,10 @@ module _ {Value : Type 0} where
   last-replaced [] m y q k v t = end-later refl (last-drop m t)
   last-replaced (x ∷ p) m y q k v t = end-later (last-middle [] x (p ++ m) y q (rw append-assoc t)) (last-replaced p m y q k v (last-tail t))
 
-  -- the symbols of some chunks: each one's stack without marks, and its unread symbols
-  abbrev pub continuation : List (Chunk Value) → List (Unread Value)
-  continuation [] = []
-  continuation (c ∷ chunks) = stackSymbols (c .stack) ++ (c .unread ++ continuation chunks)
-
   -- all that the first chunk of a list has before it
   abbrev pub ahead : List (Chunk Value) → List (Unread Value)
   ahead [] = []
-  ahead (c ∷ chunks) = c .unread ++ continuation chunks
+  ahead (c ∷ chunks) = c .unread ++ symbolsAlong chunks
 
   at-top : (s : List (Entry Value)) {a : ℕ} → topTerminal s ≡ some a
       → (p : List (Unread Value)) × (w : Value) × (q : List (Unread Value)) × (stackSymbols s ≡ p ++ terminalAt a w ∷ q)
@@ -236,8 +235,8 @@ module _ {Value : Type 0} (table : Table Value) where
   same-of (stuck-before run why v z) = refuses-alike why v z run
   same-of {x = x} (reached l l′ run q) = ends-alike {L′ = l ++ l′} (rw q (Permᴰ·middle x l l′)) run
 
-  replacing-same : (p : List (Unread Value)) {S s s′ : List (Entry Value)} {x : Unread Value} {r : ℕ} {v : Value} (u : List (Unread Value)) {L : List (Reduction Value)} {o : Out Value}
-      → Replacing table s x r v s′ → EndLast (p ++ (stackSymbols s ++ x ∷ u)) → Ends table S (p ++ (stackSymbols s ++ x ∷ u)) L o
+  replacing-same : (p : List (Unread Value)) {S s s′ : List (Entry Value)} {x : Unread Value} {r : ℕ} {v : Value} (u : List (Unread Value))
+      {L : List (Reduction Value)} {o : Out Value} → Replacing table s x r v s′ → EndLast (p ++ (stackSymbols s ++ x ∷ u)) → Ends table S (p ++ (stackSymbols s ++ x ∷ u)) L o
       → SameEnd S (p ++ (stackSymbols s′ ++ x ∷ u)) (record { rule = r; value = v } ∷ []) L o × EndLast (p ++ (stackSymbols s′ ++ x ∷ u))
   replacing-same p {S} {s} u {L} {o} (replacing e {below = below} {a = a} {c = c} {r = r} {vc = vc} q t g l tk mt) last run = go (top-form below t)
     where
@@ -255,35 +254,37 @@ module _ {Value : Type 0} (table : Table Value) where
           let i : eqb a 0 ≡ false = last-middle (p ++ stackSymbols (k .2)) (terminalAt a (k .1)) (stackSymbols e) (terminalAt c vc) u last′ in
           rw (k .3, replaced-form p (k .2) a (k .1) (table .leftSide r) made (terminalAt c vc ∷ u)) (
             same-of (swap table (p ++ stackSymbols (k .2)) (k .1) vc u i g tk mt (rw f at run)),
-            simp append-assoc (simp append-assoc at (last-replaced ((p ++ stackSymbols (k .2)) ++ (terminalAt a (k .1) ∷ [])) (stackSymbols e) (terminalAt c vc) u (table .leftSide r) made
+            simp append-assoc (simp append-assoc at (last-replaced
+                ((p ++ stackSymbols (k .2)) ++ (terminalAt a (k .1) ∷ [])) (stackSymbols e) (terminalAt c vc) u (table .leftSide r) made
                 (simp append-assoc (simp append-assoc at last′)))),
           )
 
   -- p: what the first chunk has unread, and the symbols of the chunks between
   pub later-same : {chunks chunks′ : List (Chunk Value)} {made : List (Reduction Value)} → Changed table chunks made chunks′ → (p : List (Unread Value)) {S : List (Entry Value)}
-      {L : List (Reduction Value)} {o : Out Value} → AllLater chunks → EndLast (p ++ continuation chunks) → Ends table S (p ++ continuation chunks) L o
-      → SameEnd S (p ++ continuation chunks′) made L o × EndLast (p ++ continuation chunks′)
+      {L : List (Reduction Value)} {o : Out Value} → AllLater chunks → EndLast (p ++ symbolsAlong chunks) → Ends table S (p ++ symbolsAlong chunks) L o
+      → SameEnd S (p ++ symbolsAlong chunks′) made L o × EndLast (p ++ symbolsAlong chunks′)
   later-same (moves-one {chunks = chunks} (has-read {stack = s} {stack′ = s′} {unread = u} b h)) p {L = L} all t e =
-      let q : p ++ (stackSymbols s ++ b ∷ (u ++ continuation chunks)) ≡ p ++ (stackSymbols s′ ++ (u ++ continuation chunks)) = read-form p s s′ b (u ++ continuation chunks) h t in
+      let q : p ++ (stackSymbols s ++ b ∷ (u ++ symbolsAlong chunks)) ≡ p ++ (stackSymbols s′ ++ (u ++ symbolsAlong chunks)) = read-form p s s′ b (u ++ symbolsAlong chunks) h t in
       (ends-alike (Permᴰ·refl L) (rw q at e), rw q at t)
-  later-same (moves-one {chunks = chunks} (has-replaced {unread = u} b h)) p (all-later-cons l all) t e = replacing-same p (u ++ continuation chunks) (later-replacing table b l h) t e
+  later-same (moves-one {chunks = chunks} (has-replaced {unread = u} b h)) p (all-later-cons l all) t e =
+      replacing-same p (u ++ symbolsAlong chunks) (later-replacing table b l h) t e
   later-same (moves-one (got-stuck b h)) p {L = L} all t e = (ends-alike (Permᴰ·refl L) e, t)
   later-same (joins-two {c = c} {d = d} {chunks = chunks} a b) p {L = L} all t e =
-      let q : p ++ (stackSymbols (c .stack) ++ (c .unread ++ (stackSymbols (d .stack) ++ (d .unread ++ continuation chunks))))
-      ≡ p ++ (stackSymbols (c .stack) ++ ((c .unread ++ (stackSymbols (d .stack) ++ d .unread)) ++ continuation chunks)) = simp append-assoc in
+      let q : p ++ (stackSymbols (c .stack) ++ (c .unread ++ (stackSymbols (d .stack) ++ (d .unread ++ symbolsAlong chunks))))
+      ≡ p ++ (stackSymbols (c .stack) ++ ((c .unread ++ (stackSymbols (d .stack) ++ d .unread)) ++ symbolsAlong chunks)) = simp append-assoc in
       (ends-alike (Permᴰ·refl L) (rw q at e), rw q at t)
   later-same (further {c = c} {chunks = chunks} {chunks′ = chunks′} m) p (all-later-cons l all) t e =
-      let q : (p ++ (stackSymbols (c .stack) ++ c .unread)) ++ continuation chunks ≡ p ++ (stackSymbols (c .stack) ++ (c .unread ++ continuation chunks)) = simp append-assoc in
-      let q′ : (p ++ (stackSymbols (c .stack) ++ c .unread)) ++ continuation chunks′ ≡ p ++ (stackSymbols (c .stack) ++ (c .unread ++ continuation chunks′)) = simp append-assoc in
+      let q : (p ++ (stackSymbols (c .stack) ++ c .unread)) ++ symbolsAlong chunks ≡ p ++ (stackSymbols (c .stack) ++ (c .unread ++ symbolsAlong chunks)) = simp append-assoc in
+      let q′ : (p ++ (stackSymbols (c .stack) ++ c .unread)) ++ symbolsAlong chunks′ ≡ p ++ (stackSymbols (c .stack) ++ (c .unread ++ symbolsAlong chunks′)) = simp append-assoc in
       rw q′ at (later-same m (p ++ (stackSymbols (c .stack) ++ c .unread)) all (rw (← q) at t) (rw (← q) at e))
 
   -- the chunks of a row
-  pub data Whole : List (Chunk Value) → Type 0 where
-    whole : {c : Chunk Value} {chunks : List (Chunk Value)} → AllLater chunks → EndLast (c .unread ++ continuation chunks) → Whole (c ∷ chunks)
+  pub data WholeRow : List (Chunk Value) → Type 0 where
+    whole : {c : Chunk Value} {chunks : List (Chunk Value)} → AllLater chunks → EndLast (c .unread ++ symbolsAlong chunks) → WholeRow (c ∷ chunks)
 
   -- every move of any chunk and every join leaves the run of the first chunk over all that is ahead as it was
-  pub changed-same : {chunks chunks′ : List (Chunk Value)} {made L : List (Reduction Value)} {o : Out Value} → Changed table chunks made chunks′ → Whole chunks
-      → Ends table (firstStack chunks) (ahead chunks) L o → SameEnd (firstStack chunks′) (ahead chunks′) made L o × Whole chunks′
+  pub changed-same : {chunks chunks′ : List (Chunk Value)} {made L : List (Reduction Value)} {o : Out Value} → Changed table chunks made chunks′ → WholeRow chunks
+      → Ends table (firstStack chunks) (ahead chunks) L o → SameEnd (firstStack chunks′) (ahead chunks′) made L o × WholeRow chunks′
   changed-same {L = L} (moves-one (has-read b h)) (whole all t) e = (ends-alike (Permᴰ·refl L) (after-reading table h e), whole all (last-tail t))
   changed-same (moves-one (has-replaced b h)) (whole all t) e = (one (after-replacing table h e), whole all t)
     where
@@ -292,7 +293,7 @@ module _ {Value : Type 0} (table : Table Value) where
       one {x = x} k = ends-alike {L′ = k .0} (rw (k .1) (Permᴰ·refl (x ∷ k .0))) (k .2)
   changed-same {L = L} (moves-one (got-stuck b h)) (whole all t) e = (ends-alike (Permᴰ·refl L) e, whole all t)
   changed-same {L = L} (joins-two {c = c} {d = d} {chunks = chunks} a b) (whole (all-later-cons l all) t) e =
-      let q : c .unread ++ (stackSymbols (d .stack) ++ (d .unread ++ continuation chunks)) ≡ (c .unread ++ (stackSymbols (d .stack) ++ d .unread)) ++ continuation chunks =
+      let q : c .unread ++ (stackSymbols (d .stack) ++ (d .unread ++ symbolsAlong chunks)) ≡ (c .unread ++ (stackSymbols (d .stack) ++ d .unread)) ++ symbolsAlong chunks =
       simp append-assoc in
       (ends-alike (Permᴰ·refl L) (rw q at e), whole all (rw q at t))
   changed-same (further {c = c} m) (whole all t) e = let k = later-same m (c .unread) all t e in (k .0, whole (all-later-kept m all) (k .1))
@@ -309,7 +310,7 @@ module _ {Value : Type 0} (table : Table Value) where
   refuses-then why v z (ends-alike p e) = refuses-alike why v z e
 
   -- and so does any number of them
-  pub changes-same : {chunks chunks′ : List (Chunk Value)} {n : ℕ} {made L : List (Reduction Value)} {o : Out Value} → Changes table chunks n made chunks′ → Whole chunks
+  pub changes-same : {chunks chunks′ : List (Chunk Value)} {n : ℕ} {made L : List (Reduction Value)} {o : Out Value} → Changes table chunks n made chunks′ → WholeRow chunks
       → Ends table (firstStack chunks) (ahead chunks) L o → SameEnd (firstStack chunks′) (ahead chunks′) made L o
   changes-same {L = L} no-change w e = ends-alike (Permᴰ·refl L) e
   changes-same (one-change {chunks′ = chunks₁} {chunks″ = chunks₂} {made = made} {more = more} m k) w e =

@@ -4,7 +4,7 @@
 -- Why: a left side takes the place of a handle that has a terminal on either side, the one below it on the same stack and the
 -- unread b; only the # at the very end is ever taken away. On a stack a mark stands above a terminal, since only "yields" sets one.
 -- It asks of the tokens that none is #, and nothing of the table.
--- Rests on Allowed and AllowedExactly, on Schedules, LaterChunks' `continuation` and Starts, and on GivenExactly for 20.
+-- Rests on Allowed and AllowedExactly, on Schedules and Starts, and on GivenExactly for 20.
 --
 -- Main definitions: rowSymbols, Neighbours, RowChange. Main statements: never-neighbours, never-20.
 use mathlib.Core.Path.{_≡_, refl, sym}
@@ -19,12 +19,14 @@ use Rattle.machine.specs.Entries.{Unread, terminalAt, nonterminalAt, Ent
 use Rattle.machine.specs.Moves.{Table, Stuck, noRelation, noRule, notAxiom, sideBySide}
 use Rattle.machine.specs.Chunks.{running, stuck, Chunk}
 use Rattle.machine.specs.States.{State, live, unreadFrom, start, refusedRow, outcome}
-use Rattle.machine.specs.Allowed.{TopmostTerminal, on-top, under-nonterminal, TopNonterminal, top-nonterminal, HandleAbove, from-nonterminal, from-mark, up-to-unmarked, up-to-nonterminal, runs, isStuck, end-and-axiom, ChunkMoves, rule-1-stuck, rule-1, rule-2, rule-3, rule-4-yields, rule-4-equal, rule-4-last, rule-4-stuck, rule-5, rule-5-stuck, rule-6}
-use Rattle.machine.specs.AllowedExactly.{turn-exactly}
+use Rattle.machine.specs.Allowed.{TopmostTerminal, on-top, under-nonterminal, TopNonterminal, top-nonterminal, HandleAbove, from-nonterminal, from-mark}
+use Rattle.machine.specs.Allowed.{up-to-unmarked, up-to-nonterminal, runs, isStuck, end-and-axiom, ChunkMoves, rule-1-stuck, rule-1, rule-2, rule-3}
+use Rattle.machine.specs.Allowed.{rule-4-yields, rule-4-equal, rule-4-last, rule-4-stuck, rule-5, rule-5-stuck, rule-6}
+use Rattle.machine.specs.AllowedExactly.{handle-symbols, turn-exactly}
 use Rattle.machine.specs.GivenExactly.{stuck-exactly, live-one}
-use Rattle.machine.specs.Schedules.{Schedule, Made, has-read, has-replaced, got-stuck, Changed, moves-one, joins-two, further, Changes, no-change, one-change, schedule-listed}
-use Rattle.machine.specs.LaterChunks.{continuation}
-use Rattle.machine.specs.Starts.{NoEnd, together, laterChunk, begun}
+use Rattle.machine.specs.Schedules.{Schedule, Made, has-read, has-replaced, got-stuck, Changed, moves-one, joins-two}
+use Rattle.machine.specs.Schedules.{further, Changes, no-change, one-change, schedule-listed}
+use Rattle.machine.specs.Starts.{NoEnd, laterChunk, symbolsAlong, later-symbols, begun}
 
 running-not-stuck : running ≡ stuck sideBySide → ⊥
 running-not-stuck q = let z : _≡_ {A = ℕ} 0 1 = cc in omega arith
@@ -39,7 +41,7 @@ Else sideBySide = ⊥
 module _ {Value : Type 0} where
   -- the live chunks in order, each one's stack, bottom first, before its unread symbols
   abbrev pub rowSymbols : State Value → List (Unread Value)
-  rowSymbols s = continuation (live (s .chunks))
+  rowSymbols s = symbolsAlong (live (s .chunks))
 
   -- two nonterminals are neighbours
   pub record Neighbours (row : List (Unread Value)) : Type 0 where
@@ -54,42 +56,42 @@ module _ {Value : Type 0} where
   -- A row of symbols.
 
   -- # is at most the last symbol, and a nonterminal has a terminal after it, or nothing
-  pub data Fits : List (Unread Value) → Type 0 where
-    fits-nothing : Fits []
-    fits-last : {x : Unread Value} → Fits (x ∷ [])
-    fits-terminal : {a : ℕ} {v : Value} {y : Unread Value} {w : List (Unread Value)} → (a ≡ 0 → ⊥) → Fits (y ∷ w) → Fits (terminalAt a v ∷ y ∷ w)
-    fits-nonterminal : {k a : ℕ} {v u : Value} {w : List (Unread Value)} → Fits (terminalAt a u ∷ w) → Fits (nonterminalAt k v ∷ terminalAt a u ∷ w)
+  pub data RowFits : List (Unread Value) → Type 0 where
+    fits-nothing : RowFits []
+    fits-last : {x : Unread Value} → RowFits (x ∷ [])
+    fits-terminal : {a : ℕ} {v : Value} {y : Unread Value} {w : List (Unread Value)} → (a ≡ 0 → ⊥) → RowFits (y ∷ w) → RowFits (terminalAt a v ∷ y ∷ w)
+    fits-nonterminal : {k a : ℕ} {v u : Value} {w : List (Unread Value)} → RowFits (terminalAt a u ∷ w) → RowFits (nonterminalAt k v ∷ terminalAt a u ∷ w)
 
   -- a row begins with a terminal, and the rest fits
   pub data Framed : List (Unread Value) → Type 0 where
-    framed : {a : ℕ} {v : Value} {w : List (Unread Value)} → Fits w → Framed (terminalAt a v ∷ w)
+    framed : {a : ℕ} {v : Value} {w : List (Unread Value)} → RowFits w → Framed (terminalAt a v ∷ w)
 
-  fits-tail : {x : Unread Value} {w : List (Unread Value)} → Fits (x ∷ w) → Fits w
+  fits-tail : {x : Unread Value} {w : List (Unread Value)} → RowFits (x ∷ w) → RowFits w
   fits-tail fits-last = fits-nothing
   fits-tail (fits-terminal h f) = f
   fits-tail (fits-nonterminal f) = f
 
-  fits-drop : (p : List (Unread Value)) {w : List (Unread Value)} → Fits (p ++ w) → Fits w
+  fits-drop : (p : List (Unread Value)) {w : List (Unread Value)} → RowFits (p ++ w) → RowFits w
   fits-drop [] f = f
   fits-drop (x ∷ p) f = fits-drop p (fits-tail f)
 
   -- a symbol fits by the one after it, whatever comes then
-  fits-cons : {x y : Unread Value} {w w′ : List (Unread Value)} → Fits (x ∷ y ∷ w) → Fits (y ∷ w′) → Fits (x ∷ y ∷ w′)
+  fits-cons : {x y : Unread Value} {w w′ : List (Unread Value)} → RowFits (x ∷ y ∷ w) → RowFits (y ∷ w′) → RowFits (x ∷ y ∷ w′)
   fits-cons (fits-terminal h f) g = fits-terminal h g
   fits-cons (fits-nonterminal f) g = fits-nonterminal g
 
-  fits-front : (p w : List (Unread Value)) → Fits (p ++ w) → Fits p
+  fits-front : (p w : List (Unread Value)) → RowFits (p ++ w) → RowFits p
   fits-front [] w f = fits-nothing
   fits-front (x ∷ []) w f = fits-last
   fits-front (x ∷ y ∷ p) w f = fits-cons f (fits-front (y ∷ p) w (fits-tail f))
 
   module _ (a b k : ℕ) (v w u : Value) (z : List (Unread Value)) where
-    not-end : (m : List (Unread Value)) → Fits (terminalAt a v ∷ (m ++ (terminalAt b w ∷ z))) → a ≡ 0 → ⊥
+    not-end : (m : List (Unread Value)) → RowFits (terminalAt a v ∷ (m ++ (terminalAt b w ∷ z))) → a ≡ 0 → ⊥
     not-end [] (fits-terminal h f) = h
     not-end (x ∷ m) (fits-terminal h f) = h
 
-    fits-replaced : (p m : List (Unread Value)) → Fits (p ++ (terminalAt a v ∷ (m ++ (terminalAt b w ∷ z))))
-        → Fits (p ++ (terminalAt a v ∷ nonterminalAt k u ∷ terminalAt b w ∷ z))
+    fits-replaced : (p m : List (Unread Value)) → RowFits (p ++ (terminalAt a v ∷ (m ++ (terminalAt b w ∷ z))))
+        → RowFits (p ++ (terminalAt a v ∷ nonterminalAt k u ∷ terminalAt b w ∷ z))
     fits-replaced [] m f = fits-terminal (not-end m f) (fits-nonterminal (fits-drop m (fits-tail f)))
     fits-replaced (x ∷ []) m f = fits-cons f (fits-replaced [] m (fits-tail f))
     fits-replaced (x ∷ y ∷ p) m f = fits-cons f (fits-replaced (y ∷ p) m (fits-tail f))
@@ -103,7 +105,7 @@ module _ {Value : Type 0} where
         → row′ ≡ p ++ (terminalAt 0 v ∷ nonterminalAt k w ∷ z) → RowChange row row′
 
   -- after # nothing stands
-  end-is-last : (v : Value) (z : List (Unread Value)) → Fits (terminalAt 0 v ∷ z) → z ≡ []
+  end-is-last : (v : Value) (z : List (Unread Value)) → RowFits (terminalAt 0 v ∷ z) → z ≡ []
   end-is-last v [] f = refl
   end-is-last v (x ∷ z) (fits-terminal h f) = absurd (h refl)
 
@@ -116,20 +118,20 @@ module _ {Value : Type 0} where
       go (x ∷ p) (framed g) = framed (fits-replaced a b k v w u z p m g)
   framed-kept (end-read p z k v w u e e′) f = rw e′ (go p (rw e at f))
     where
-      cut : (p : List (Unread Value)) → Fits (p ++ (nonterminalAt k w ∷ terminalAt 0 u ∷ z)) → Fits (p ++ (nonterminalAt k w ∷ z))
+      cut : (p : List (Unread Value)) → RowFits (p ++ (nonterminalAt k w ∷ terminalAt 0 u ∷ z)) → RowFits (p ++ (nonterminalAt k w ∷ z))
       cut p g =
           let z-is : z ≡ [] = end-is-last u z (fits-tail (fits-drop p g)) in
-          let g′ : Fits (p ++ (nonterminalAt k w ∷ []) ++ (terminalAt 0 u ∷ z)) = rw append-assoc g in
+          let g′ : RowFits (p ++ (nonterminalAt k w ∷ []) ++ (terminalAt 0 u ∷ z)) = rw append-assoc g in
           rw z-is (fits-front (p ++ (nonterminalAt k w ∷ [])) (terminalAt 0 u ∷ z) g′)
 
       go : (p : List (Unread Value)) → Framed (p ++ (terminalAt 0 v ∷ nonterminalAt k w ∷ terminalAt 0 u ∷ z)) → Framed (p ++ (terminalAt 0 v ∷ nonterminalAt k w ∷ z))
       go [] (framed g) = framed (cut [] g)
       go (x ∷ p) (framed g) = framed (rw append-assoc at (cut (p ++ (terminalAt 0 v ∷ [])) (rw append-assoc g)))
 
-  fits-apart : (p : List (Unread Value)) (j k : ℕ) (v w : Value) (z : List (Unread Value)) → Fits (p ++ (nonterminalAt j v ∷ nonterminalAt k w ∷ z)) → ⊥
+  fits-apart : (p : List (Unread Value)) (j k : ℕ) (v w : Value) (z : List (Unread Value)) → RowFits (p ++ (nonterminalAt j v ∷ nonterminalAt k w ∷ z)) → ⊥
   fits-apart p j k v w z f = go (fits-drop p f)
     where
-      go : Fits (nonterminalAt j v ∷ nonterminalAt k w ∷ z) → ⊥
+      go : RowFits (nonterminalAt j v ∷ nonterminalAt k w ∷ z) → ⊥
       go = elim [ ]
 
   framed-apart : {row : List (Unread Value)} → Framed row → Neighbours row → ⊥
@@ -175,12 +177,6 @@ module _ {Value : Type 0} where
   below-handle (up-to-unmarked a) (stacked-unmarked s) = below-handle a s
   below-handle (up-to-nonterminal a) (stacked-nonterminal h s) = below-handle a s
 
-  handle-symbols : {stack handle below : List (Entry Value)} → HandleAbove stack handle below → stackSymbols stack ≡ stackSymbols below ++ stackSymbols handle
-  handle-symbols from-nonterminal = simp append-assoc
-  handle-symbols (from-mark h) = refl
-  handle-symbols (up-to-unmarked a) = rw (handle-symbols a) (simp append-assoc)
-  handle-symbols (up-to-nonterminal a) = rw (handle-symbols a) (simp append-assoc)
-
   on-terminal : {k : ℕ} {v : Value} {stack : List (Entry Value)} → TopTerminal stack → Stacked (nonterminalOn k v ∷ stack)
   on-terminal (top-terminal s) = stacked-nonterminal not-nonterminal s
     where
@@ -198,7 +194,8 @@ module _ {Value : Type 0} where
     side-by-side : c′ .status ≡ stuck sideBySide → Neighbours (chunkSymbols c)
 
   -- b is read onto the stack
-  put-on : (stack : List (Entry Value)) (b : Unread Value) (unread : List (Unread Value)) → RowChange (stackSymbols stack ++ (b ∷ unread)) (stackSymbols stack ++ (b ∷ []) ++ unread)
+  put-on : (stack : List (Entry Value)) (b : Unread Value) (unread : List (Unread Value))
+      → RowChange (stackSymbols stack ++ (b ∷ unread)) (stackSymbols stack ++ (b ∷ []) ++ unread)
   put-on stack b unread = stays (sym (append-assoc (stackSymbols stack) (b ∷ []) unread))
 
   handle-replaced : {stack handle below : List (Entry Value)} → HandleAbove stack handle below → TopTerminal below → (b k : ℕ) (w u : Value) (unread : List (Unread Value))
@@ -214,9 +211,18 @@ module _ {Value : Type 0} where
       → ChunkChange (runs stack unread) (isStuck why stack unread)
   sticks-else {why} h s = record { change = stays refl; stacked = s; side-by-side = λ q. let e : why ≡ sideBySide = cc in absurd (rw e at h) }
 
-  top-beside : {stack : List (Entry Value)} (k : ℕ) (w : Value) (unread : List (Unread Value)) → TopNonterminal stack → Neighbours (stackSymbols stack ++ (nonterminalAt k w ∷ unread))
+  top-beside : {stack : List (Entry Value)} (k : ℕ) (w : Value) (unread : List (Unread Value)) → TopNonterminal stack
+      → Neighbours (stackSymbols stack ++ (nonterminalAt k w ∷ unread))
   top-beside k w unread (top-nonterminal {k = j} {v = v} {stack = stack}) =
-      record { before = stackSymbols stack; j = j; v = v; k = k; w = w; after = unread; row-is = append-assoc (stackSymbols stack) (nonterminalAt j v ∷ []) (nonterminalAt k w ∷ unread) }
+      record {
+        before = stackSymbols stack;
+        j = j;
+        v = v;
+        k = k;
+        w = w;
+        after = unread;
+        row-is = append-assoc (stackSymbols stack) (nonterminalAt j v ∷ []) (nonterminalAt k w ∷ unread);
+      }
 
 module _ {Value : Type 0} (table : Table Value) where
   chunk-change : {c c′ : Chunk Value} {made : List (Reduction Value)} → ChunkMoves table c made c′ → Stacked (c .stack) → ChunkChange c c′
@@ -248,19 +254,19 @@ module _ {Value : Type 0} where
 
   record Kept (chunks chunks′ : List (Chunk Value)) : Type 0 where
     sound : AllSound chunks′
-    change : RowChange (continuation chunks) (continuation chunks′)
+    change : RowChange (symbolsAlong chunks) (symbolsAlong chunks′)
 
-  one-kept : {c c′ : Chunk Value} → ChunkChange c c′ → (p : List (Unread Value)) {chunks : List (Chunk Value)} → Framed (p ++ continuation (c ∷ chunks)) → AllSound chunks
+  one-kept : {c c′ : Chunk Value} → ChunkChange c c′ → (p : List (Unread Value)) {chunks : List (Chunk Value)} → Framed (p ++ symbolsAlong (c ∷ chunks)) → AllSound chunks
       → Kept (c ∷ chunks) (c′ ∷ chunks)
   one-kept {c} {c′} k p {chunks} f all =
       record {
-        sound = sound-chunk (k .stacked) (λ q. framed-apart f (simp append-assoc at (neighbours-within p (continuation chunks) (k .side-by-side q)))) all;
-        change = simp append-assoc at (change-after (continuation chunks) (k .change));
+        sound = sound-chunk (k .stacked) (λ q. framed-apart f (simp append-assoc at (neighbours-within p (symbolsAlong chunks) (k .side-by-side q)))) all;
+        change = simp append-assoc at (change-after (symbolsAlong chunks) (k .change));
       }
 
 module _ {Value : Type 0} (table : Table Value) where
   -- every step and every join keeps the chunks sound; p: the symbols of the chunks before
-  kept : {chunks chunks′ : List (Chunk Value)} {made : List (Reduction Value)} → Changed table chunks made chunks′ → (p : List (Unread Value)) → Framed (p ++ continuation chunks)
+  kept : {chunks chunks′ : List (Chunk Value)} {made : List (Reduction Value)} → Changed table chunks made chunks′ → (p : List (Unread Value)) → Framed (p ++ symbolsAlong chunks)
       → AllSound chunks → Kept chunks chunks′
   kept (moves-one m) p f (sound-chunk s h all) = one-kept (chunk-change table (made-moves table m) s) p f all
   kept (joins-two a b) p f (sound-chunk s h (sound-chunk s′ h′ all)) = record { sound = sound-chunk s h all; change = stays (simp append-assoc) }
@@ -270,7 +276,7 @@ module _ {Value : Type 0} (table : Table Value) where
 
   -- the row is framed and its chunks are sound
   pub record Fine (chunks : List (Chunk Value)) : Type 0 where
-    pub row-framed : Framed (continuation chunks)
+    pub row-framed : Framed (symbolsAlong chunks)
     pub all-sound : AllSound chunks
 
   changes-fine : {chunks chunks′ : List (Chunk Value)} {n : ℕ} {made : List (Reduction Value)} → Changes table chunks n made chunks′ → Fine chunks → Fine chunks′
@@ -281,14 +287,10 @@ module _ {Value : Type 0} (table : Table Value) where
 
 -- A start.
 
-fits-unread : (i : ℕ) (tokens : List ℕ) → NoEnd tokens → Fits (unreadFrom i tokens)
+fits-unread : (i : ℕ) (tokens : List ℕ) → NoEnd tokens → RowFits (unreadFrom i tokens)
 fits-unread i [] h = fits-last
 fits-unread i (a ∷ []) h = fits-terminal (eqb-false a 0 (h .0)) fits-last
 fits-unread i (a ∷ b ∷ tokens) h = fits-terminal (eqb-false a 0 (h .0)) (fits-unread (suc i) (b ∷ tokens) (h .1))
-
-later-row : (rest : List (List (Unread Span))) → continuation (map laterChunk rest) ≡ together rest
-later-row [] = refl
-later-row (piece ∷ rest) = rw (later-row rest)
 
 later-sound : (rest : List (List (Unread Span))) → AllSound (map laterChunk rest)
 later-sound [] = no-chunk
@@ -299,7 +301,7 @@ module _ (table : Table Span) (tokens cuts : List ℕ) (no-end : NoEnd tokens) w
   start-fine =
       let b = begun tokens cuts in
       rw (b .chunks) (record {
-        row-framed = rw (later-row (b .rest), b .row) (framed (fits-unread 0 tokens no-end));
+        row-framed = rw (later-symbols (b .rest), b .row) (framed (fits-unread 0 tokens no-end));
         all-sound = sound-chunk (stacked-unmarked stacked-nothing) running-not-stuck (later-sound (b .rest));
       })
 

@@ -18,7 +18,8 @@ use Rattle.machine.specs.Entries.{Unread}
 use Rattle.machine.specs.Moves.{Table, Stuck, noRelation, noRule, notAxiom, sideBySide}
 use Rattle.machine.specs.Chunks.{Status, running, stuck, Chunk, Turn, rests, makes, atRest, restsSo, turn, joined}
 use Rattle.machine.specs.States.{State, Next, chunkAt, madeAt, step, under, nextLive, joinWith, join, live, start, refusedRow, outcomeOf, outcome, placeOf, refusalOf}
-use Rattle.machine.specs.Schedules.{Made, has-read, has-replaced, got-stuck, Turned, by-step, by-join, Turns, at-rest, in-motion, turned, Changed, moves-one, joins-two, further, listed, Follows, nothing, follows, next-live}
+use Rattle.machine.specs.Schedules.{Made, has-read, has-replaced, got-stuck, Turned, by-step, by-join, Turns, at-rest, in-motion, turned}
+use Rattle.machine.specs.Schedules.{Changed, moves-one, listed, Follows, nothing, follows, next-live, some-left}
 use Rattle.machine.specs.Starts.{begun}
 
 -- the row answers a report, or a refusal other than 16
@@ -124,12 +125,7 @@ module _ {Value : Type 0} (table : Table Value) where
 
   -- a start has a live chunk, and every turn leaves one
   pub some-live-kept : {s s′ : State Value} → Turned table s s′ → 0 < length (live (s′ .chunks))
-  some-live-kept t = go (listed table t .changed)
-    where
-      go : {chunks chunks′ : List (Chunk Value)} {made : List (Reduction Value)} → Changed table chunks made chunks′ → 0 < length chunks′
-      go (moves-one m) = omega arith
-      go (joins-two a b) = omega arith
-      go (further m) = omega arith
+  some-live-kept t = some-left table (listed table t .changed)
 
   rests-no-turn : {s s′ : State Value} → OneAtRest s → Turned table s s′ → ⊥
   rests-no-turn o t = none-left (rw (o .only) at (listed table t .changed)) (o .rests)

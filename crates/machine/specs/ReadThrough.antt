@@ -1,7 +1,7 @@
 -- An uncut row read through: chunk 0 is moved until it rests. What it does is the run of its stack over its unread symbols; it comes
 -- to rest in one way only; and a run with a large enough budget is it.
 -- Document 01, "Moves of a chunk": "The front-to-back parse is C = 1"; "it makes moves until K are made or it rests".
--- Rests on Runs, Schedules and Bounded.
+-- Rests on Allowed, Runs, Schedules and Bounded.
 --
 -- Main definitions: ReadThrough, Rested. Main statements: ends-read-through, read-once, read-through-schedule, run-reads-through.
 use mathlib.Core.Path.{_≡_, refl, sym, ap, _∙_}
@@ -18,6 +18,7 @@ use Rattle.machine.specs.Laws.{EndMark}
 use Rattle.machine.specs.Chunks.{running, stuck, Chunk}
 use Rattle.machine.specs.States.{State, refused, became, ran, step, moving, run, start}
 use Rattle.machine.specs.Runs.{Out, over, stuckAt, Ends, nothing-unread, sticking, then-reading, then-replacing}
+use Rattle.machine.specs.Allowed.{runs}
 use Rattle.machine.specs.Schedules.{Schedule, no-turn, one-turn, by-step}
 use Rattle.machine.specs.Starts.{NoEnd}
 use Rattle.machine.specs.Bounded.{mostMoves, bounded}
@@ -54,13 +55,9 @@ module _ {Value : Type 0} (table : Table Value) where
 abbrev pub alone : {Value : Type 0} → Chunk Value → List (Reduction Value) → ℕ → State Value
 alone chunk reductions moves = record { chunks = some chunk ∷ []; reductions = reductions; moves = moves }
 
--- a chunk that is running
-abbrev pub going : {Value : Type 0} → List (Entry Value) → List (Unread Value) → Chunk Value
-going stack unread = record { stack = stack; unread = unread; status = running }
-
 -- the chunk at rest, by how its run ended
 pub data Rested {Value : Type 0} : Out Value → Chunk Value → Type 0 where
-  rests-over : {stack : List (Entry Value)} → Rested (over stack) (going stack [])
+  rests-over : {stack : List (Entry Value)} → Rested (over stack) (runs stack [])
   rests-stuck : {stack : List (Entry Value)} {unread : List (Unread Value)} {why : Stuck} (b : Unread Value)
       → Rested (stuckAt why (valueOf b)) (record { stack = stack; unread = b ∷ unread; status = stuck why })
 
@@ -71,7 +68,7 @@ module _ {Value : Type 0} (table : Table Value) where
     pub count : ℕ
     pub chunk : Chunk Value
     pub rested : Rested o chunk
-    pub through : ReadThrough table (alone (going stack unread) reductions moves) count
+    pub through : ReadThrough table (alone (runs stack unread) reductions moves) count
         (alone chunk (reductions ++ l) (moves + count))
 
   counted : {s : State Value} {n : ℕ} {chunk : Chunk Value} {reductions reductions′ : List (Reduction Value)} {moves moves′ : ℕ}
@@ -91,10 +88,10 @@ module _ {Value : Type 0} (table : Table Value) where
       }
   ends-read-through (sticking {s = s} {x = x} {u = u} {why = why} h) reductions moves =
       let c : Chunk Value = record { stack = s; unread = x ∷ u; status = stuck why } in
-      let q : step table 0 (alone (going s (x ∷ u)) reductions moves) ≡ became (alone c (reductions ++ []) (moves + 1)) = rw h in
+      let q : step table 0 (alone (runs s (x ∷ u)) reductions moves) ≡ became (alone c (reductions ++ []) (moves + 1)) = rw h in
       record { count = 1; chunk = c; rested = rests-stuck x; through = one-move q (rests-there refl) }
   ends-read-through (then-reading {s = s} {s′ = s′} {x = x} {u = u} {l = l} h e) reductions moves =
-      let q : step table 0 (alone (going s (x ∷ u)) reductions moves) ≡ became (alone (going s′ u) (reductions ++ []) (moves + 1)) = rw h in
+      let q : step table 0 (alone (runs s (x ∷ u)) reductions moves) ≡ became (alone (runs s′ u) (reductions ++ []) (moves + 1)) = rw h in
       let t = ends-read-through e (reductions ++ []) (moves + 1) in
       record {
         count = suc (t .count);
@@ -104,7 +101,7 @@ module _ {Value : Type 0} (table : Table Value) where
       }
   ends-read-through (then-replacing {s = s} {s′ = s′} {x = x} {u = u} {r = r} {v = v} {l = l} h e) reductions moves =
       let made : List (Reduction Value) = record { rule = r; value = v } ∷ [] in
-      let q : step table 0 (alone (going s (x ∷ u)) reductions moves) ≡ became (alone (going s′ (x ∷ u)) (reductions ++ made) (moves + 1)) = rw h in
+      let q : step table 0 (alone (runs s (x ∷ u)) reductions moves) ≡ became (alone (runs s′ (x ∷ u)) (reductions ++ made) (moves + 1)) = rw h in
       let t = ends-read-through e (reductions ++ made) (moves + 1) in
       record {
         count = suc (t .count);

@@ -15,7 +15,8 @@ use Rattle.laws.specs.Tests.{ne-eqb}
 use Rattle.language.specs.Symbols.{yields}
 use Rattle.language.specs.Trees.{Reduction}
 use Rattle.machine.specs.Entries.{Unread, terminalAt, nonterminalAt, Entry, terminalOn, nonterminalOn, valueOf, Handle, handleOf}
-use Rattle.machine.specs.Moves.{Table, Action, reads, replaces, sticks, move, Moved, by-rule-1, by-rule-2, by-rule-4-yields, by-rule-4-equal, by-rule-4-last, by-rule-5, by-rule-6, moved}
+use Rattle.machine.specs.Moves.{Table, Action, reads, replaces, sticks, move, Moved, by-rule-1, by-rule-2, by-rule-4-yields}
+use Rattle.machine.specs.Moves.{by-rule-4-equal, by-rule-4-last, by-rule-5, by-rule-6, moved}
 use Rattle.machine.specs.Laws.{EndMark}
 use Rattle.machine.specs.Runs.{Out, over, stuckAt, Ends, nothing-unread, sticking, then-reading, then-replacing}
 

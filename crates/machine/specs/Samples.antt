@@ -74,7 +74,8 @@ tableOf19 =
 abbrev toRest : Table Span → ℕ → State Span → State Span
 toRest table c s = elim (run table c 100 s) [ refusedRun why ↦ s | ran j s′ ↦ s′ ]
 
-abbrev joinedOn : State Span → State Span
+-- chunk 0 joined to the next
+abbrev pub joinedOn : State Span → State Span
 joinedOn s = elim (join 0 s) [ refused why ↦ s | became s′ ↦ s′ ]
 
 -- "The front-to-back parse is C = 1"

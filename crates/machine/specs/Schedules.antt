@@ -12,9 +12,9 @@ use mathlib.Core.Path.{_≡_, refl, sym, ap, _∙_}
 use mathlib.Core.Bool.{Bool, true, false}
 use mathlib.Core.List.{List, [], _∷_, _++_, append-assoc, append-nil}
 use mathlib.Core.Option.{Option, none, some}
-use Prim.Native.Nat.{ℕ, zero, suc, _+_}
+use Prim.Native.Nat.{ℕ, zero, suc, _+_, _<_}
 use native.Mathlib.Omega.{arith}
-use lib.ListN.{getD, set, take, drop}
+use lib.ListN.{length, getD, set, take, drop}
 use Rattle.language.specs.declared.Refusal.{Refusal}
 use Rattle.language.specs.declared.Refusal.the-variants.{NoChunk, NoJoin}
 use Rattle.language.specs.Trees.{Reduction}
@@ -82,6 +82,12 @@ module _ {Value : Type 0} (table : Table Value) where
     joins-two : {c d : Chunk Value} {chunks : List (Chunk Value)} → atRest c ≡ true → atRest d ≡ true → Changed (c ∷ d ∷ chunks) [] (joined c d ∷ chunks)
     further : {c : Chunk Value} {made : List (Reduction Value)} {chunks chunks′ : List (Chunk Value)} → Changed chunks made chunks′
         → Changed (c ∷ chunks) made (c ∷ chunks′)
+
+  -- some chunk is left
+  pub some-left : {chunks chunks′ : List (Chunk Value)} {made : List (Reduction Value)} → Changed chunks made chunks′ → 0 < length chunks′
+  some-left (moves-one m) = omega arith
+  some-left (joins-two a b) = omega arith
+  some-left (further m) = omega arith
 
   pub data Changes : List (Chunk Value) → ℕ → List (Reduction Value) → List (Chunk Value) → Type 0 where
     no-change : {chunks : List (Chunk Value)} → Changes chunks 0 [] chunks

@@ -11,7 +11,8 @@ use mathlib.Core.Option.{some}
 use Prim.Native.Nat.{ℕ}
 use lib.Dec.{eqb}
 use Rattle.language.specs.Symbols.{Symbol, yields, equal, takes}
-use Rattle.machine.specs.Entries.{Unread, terminalAt, nonterminalAt, Entry, terminalOn, nonterminalOn, symbol, valueOf, unmarked, stackSymbols, topTerminal, topIsNonterminal, handleOf}
+use Rattle.machine.specs.Entries.{Unread, terminalAt, nonterminalAt, Entry, terminalOn, nonterminalOn, symbol, valueOf}
+use Rattle.machine.specs.Entries.{unmarked, stackSymbols, topTerminal, topIsNonterminal, handleOf}
 use Rattle.machine.specs.Moves.{Table, replaces, move}
 use Rattle.machine.specs.Reaches.{Reaches, here, reading, trans}
 

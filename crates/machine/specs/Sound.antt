@@ -285,7 +285,7 @@ module _ {Value : Type 0} (g : Grammar) (table : Table Value) (laws : Laws g tab
   whole-stack (nonterminalOn k v ∷ terminalOn mark a w ∷ x ∷ s) q = absurd (false≢true q)
 
   -- an axiom, and a tree of it over the tokens u, with the reductions l
-  pub record Accepted (U : List (Unread Value)) (l : List (Reduction Value)) : Type 0 where
+  pub record AcceptedRow (U : List (Unread Value)) (l : List (Reduction Value)) : Type 0 where
     pub root : ℕ
     pub value : Value
     pub tokens : List (Unread Value)
@@ -301,7 +301,7 @@ module _ {Value : Type 0} (g : Grammar) (table : Table Value) (laws : Laws g tab
 
   -- where the run from # over a row is over, an axiom has a tree over the row's tokens, and the reductions are that tree's
   pub sound : {u : List (Unread Value)} {l : List (Reduction Value)} {s : List (Entry Value)} (w : Value) → Row u
-      → Ends table (terminalOn false 0 w ∷ []) u l (over s) → Accepted u l
+      → Ends table (terminalOn false 0 w ∷ []) u l (over s) → AcceptedRow u l
   sound {u} {l} {s} w row e =
       go (reads-row e row (record { first = only-end {v = w}; stands = for-terminal {m = false} {a = 0} {v = w} for-nothing }) refl)
     where
@@ -310,7 +310,7 @@ module _ {Value : Type 0} (g : Grammar) (table : Table Value) (laws : Laws g tab
           → DerivedFrom g (table .value) A v u′ l
       tree-of {u′ = u′} q so = let k = whole-tree (rw q at so) in let p = k .1 in let z : k .0 ≡ u′ = cc in rw z at (k .2)
 
-      go : Read s (terminalAt 0 w ∷ []) u [] l → Accepted u l
+      go : Read s (terminalAt 0 w ∷ []) u [] l → AcceptedRow u l
       go a =
           let z = whole-stack s (a .whole) in
           record {

@@ -3,11 +3,11 @@
 -- It is there for any words and any bytes; for accepted words and their own matrix it has every law that demands 2 and 3 ask.
 -- Rests on Moves, Laws and Spans, and on language's Loads and PassedWords.
 --
--- Main definitions: relationFrom, relationAt, tableOf. Main statements: end-mark-of-words, laws-of-words.
+-- Main definitions: relationFrom, relationAt, tableOf, ownTable. Main statements: end-mark-of-words, laws-of-words; own-end-mark, own-laws.
 use mathlib.Core.Path.{_≡_, refl, sym, ap, _∙_}
 use mathlib.Core.Bool.{Bool, true, false, _&&_}
 use mathlib.Core.Logic.{_⊎_, inl, inr}
-use mathlib.Core.List.{List, [], _∷_, _++_}
+use mathlib.Core.List.{List, [], _∷_, _++_, append-nil}
 use mathlib.Core.Option.{some}
 use Prim.Native.Nat.{ℕ, zero, suc, _+_, _*_, _≤_, _<_}
 use native.Mathlib.Omega.{arith}
@@ -78,8 +78,8 @@ module _ (words : List ℕ) (accepted : Accepted words) (rest : List ℕ) where
   abbrev g : Grammar
   g = grammarOf words
 
-  abbrev pub ownTable : Table Span
-  ownTable = tableOf words (matrixOf g ++ rest)
+  abbrev table : Table Span
+  table = tableOf words (matrixOf g ++ rest)
 
   range : InRange g
   range = in-range words (accepted .passed .head) (accepted .passed .symbols)
@@ -88,27 +88,27 @@ module _ (words : List ℕ) (accepted : Accepted words) (rest : List ℕ) where
   unfolding grammarOf
   few = few-terminals words (accepted .passed .head) .1
 
-  is : (a b : ℕ) → ownTable .relation a b ≡ relationOf g a b
-  is a b = relation-of-matrix g rest few a b
+  pub relation-of-words : (a b : ℕ) → table .relation a b ≡ relationOf g a b
+  relation-of-words a b = relation-of-matrix g rest few a b
 
   -- "# equals #", # takes over nothing and nothing yields to it
-  pub end-mark-of-words : EndMark ownTable
+  pub end-mark-of-words : EndMark table
   end-mark-of-words =
       let e = end-relations range in
       record {
-        nothing-yields = λ a q. e .nothing-yields a (sym (is a 0) ∙ q);
-        never-takes = λ b q. e .never-takes b (sym (is 0 b) ∙ q);
-        equal-after = λ b q. e .equal-after b (sym (is 0 b) ∙ q);
-        equal-before = λ a q. e .equal-before a (sym (is a 0) ∙ q);
+        nothing-yields = λ a q. e .nothing-yields a (sym (relation-of-words a 0) ∙ q);
+        never-takes = λ b q. e .never-takes b (sym (relation-of-words 0 b) ∙ q);
+        equal-after = λ b q. e .equal-after b (sym (relation-of-words 0 b) ∙ q);
+        equal-before = λ a q. e .equal-before a (sym (relation-of-words a 0) ∙ q);
       }
 
   -- *laws from the words*: all that sound and complete assume
-  pub laws-of-words : Laws g ownTable
+  pub laws-of-words : Laws g table
   unfolding grammarOf
   laws-of-words = record {
-    equal-of = λ {a} {b} e. is a b ∙ relation-exactly range (accepted .free) a b .is-equal .1 e;
-    yields-of = λ {a} {b} e. is a b ∙ relation-exactly range (accepted .free) a b .is-yields .1 e;
-    takes-of = λ {a} {b} e. is a b ∙ relation-exactly range (accepted .free) a b .is-takes .1 e;
+    equal-of = λ {a} {b} e. relation-of-words a b ∙ relation-exactly range (accepted .free) a b .is-equal .1 e;
+    yields-of = λ {a} {b} e. relation-of-words a b ∙ relation-exactly range (accepted .free) a b .is-yields .1 e;
+    takes-of = λ {a} {b} e. relation-of-words a b ∙ relation-exactly range (accepted .free) a b .is-takes .1 e;
     matching-of = λ s. matching-of (no-twins (accepted .passed .twins)) s;
     spelled-by = λ {r} {w} q. spelled-by w q;
     left-of = λ s. refl;
@@ -118,3 +118,16 @@ module _ (words : List ℕ) (accepted : Accepted words) (rest : List ℕ) where
     axiom-of = λ {k} h. lt-ltb k (countA words) h;
     of-axiom = λ {k} q. ltb-true k (countA words) q;
   }
+
+-- ---- .. and nothing beyond it
+
+-- the table of the words with their own matrix: the one that the one-call parse uses
+abbrev pub ownTable : List ℕ → Table Span
+ownTable words = tableOf words (matrixOf (grammarOf words))
+
+module _ {words : List ℕ} (accepted : Accepted words) where
+  pub own-end-mark : EndMark (ownTable words)
+  own-end-mark = rw (append-nil (matrixOf (grammarOf words))) at (end-mark-of-words words accepted [])
+
+  pub own-laws : Laws (grammarOf words) (ownTable words)
+  own-laws = rw (append-nil (matrixOf (grammarOf words))) at (laws-of-words words accepted [])

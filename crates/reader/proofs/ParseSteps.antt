@@ -1,9 +1,9 @@
 -- What the steps of the module `parsing` read and write.
 -- Main statements: copied-word, cleared-word (one turn of each loop); is-alone, written (the row's outcome).
-use mathlib.Core.Path.{_≡_, refl, sym, ap, _∙_}
+use mathlib.Core.Path.{_≡_, sym, ap, _∙_}
 use mathlib.Core.Bool.{true}
-use mathlib.Core.List.{List, _∷_, _++_}
-use Prim.Native.Nat.{ℕ, zero, suc, _+_, _*_, _-_, _<_}
+use mathlib.Core.List.{List, _++_}
+use Prim.Native.Nat.{ℕ, suc, _+_, _*_, _-_, _<_}
 use native.Mathlib.Numerals.{add-one}
 use native.Mathlib.Omega.{arith}
 use lib.ListN.{length, getD, take, drop, set, length-drop, length-replicate}
@@ -13,6 +13,7 @@ use Rattle.area.specs.Layout.{zeros, madeAtWord, readMade}
 use Rattle.report.specs.EntryWords.{entries-words}
 use Rattle.report.specs.OutcomeWords.{noneLive}
 use Rattle.report.proofs.OrderLaw.{put-word}
+use Rattle.reader.specs.BlockWords.{zeros-snoc}
 use Rattle.reader.specs.ParseLaws.{Finished}
 
 -- one word more, of those from word `at` on
@@ -22,14 +23,10 @@ copied-word area out at i h k =
     ap (λ w. set (take i (drop at area) ++ drop i out) i w) (sym (getD-drop at area i 0))
     ∙ put-word (drop at area) out i (omega (arith, length-drop at area)) k
 
-zeros-next : (i : ℕ) (after : List ℕ) → zeros i ++ (0 ∷ after) ≡ 0 ∷ (zeros i ++ after)
-zeros-next zero after = refl
-zeros-next (suc i) after = ap {B = List ℕ} (λ l. 0 ∷ l) (zeros-next i after)
-
 -- one word more is 0
 pub cleared-word : (area : List ℕ) (i : ℕ) → i < length area → set (zeros i ++ drop i area) i 0 ≡ zeros (i + 1) ++ drop (i + 1) area
 cleared-word area i h =
-    rw (add-one, drop-cons area i 0 h, set-at (zeros i) (getD area i 0) (drop (suc i) area) 0 i (length-replicate {A = ℕ} i 0)) (zeros-next i (drop (suc i) area))
+    rw (add-one, drop-cons area i 0 h, set-at (zeros i) (getD area i 0) (drop (suc i) area) 0 i (length-replicate {A = ℕ} i 0)) (zeros-snoc i (drop (suc i) area))
 
 module _ {area : List ℕ} (f : Finished area) where
   pub is-alone : true ≡ noneLive (getD area 1 0 - 1) area 10

@@ -17,16 +17,18 @@ use Rattle.language.specs.Trees.{Span, Reduction}
 use Rattle.machine.specs.Entries.{Unread, terminalAt, nonterminalAt, Entry, terminalOn, nonterminalOn}
 use Rattle.machine.specs.Chunks.{Status, Chunk}
 use Rattle.machine.specs.States.{State, madeAt, live}
+use Rattle.machine.specs.Starts.{symbolsAlong}
 use Rattle.machine.specs.Allowed.{AllGone, Live}
 use Rattle.area.specs.Layout.{size, unreadSize, block, stackSize, stackWords, marks, statusWord, total, tailWords, encode, tableAt}
 use Rattle.area.specs.Lengths.{length-stack, length-rows, length-slots}
-use Rattle.area.specs.Kept.{Tiles, symbolsOf, Kept}
+use Rattle.area.specs.Kept.{Tiles, Kept}
 use Rattle.area.specs.Encoded.{chunks-at}
 use Rattle.area.specs.RowCounts.{no-symbol}
 use Rattle.area.specs.Tiling.{end-is-last}
 use Rattle.reader.specs.MoveWords.{endOf, endedWords, acceptWords, Acceptable}
 use Rattle.reader.specs.KeptAround.{symbols-around, nothing-live}
-use Rattle.reader.specs.AroundChunk.{slots-count, finerParts, around-finer, tick-law, gone-rows, gone-slots, gone-total, listed-words, read-words, end-word, number-within, few-moves, slots-within, ends-within}
+use Rattle.reader.specs.AroundChunk.{slots-count, finerParts, around-finer, tick-law, gone-rows, gone-slots, gone-total, listed-words}
+use Rattle.reader.specs.AroundChunk.{read-words, end-word, number-within, few-moves, slots-within, ends-within}
 
 module _ (n : ℕ) (earlier : List (Option (Chunk Span))) (stack : List (Entry Span)) (v : Span) (status : Status) (later : List (Option (Chunk Span)))
     (gone : AllGone later) (reductions : List (Reduction Span)) (moves : ℕ) (rest : List ℕ) (fits : total earlier + (stackSize stack + 1) ≤ n + 2) where
@@ -52,13 +54,15 @@ module _ (n : ℕ) (earlier : List (Option (Chunk Span))) (stack : List (Entry S
   was : encode n (state reader moves) ++ rest ≡ flat (parts moves (total earlier + (stackSize stack + 1)) (0 ∷ 0 ∷ 1 ∷ 1 ∷ []))
   unfolding block
   was =
-      around-finer n earlier (some reader) later reductions moves rest (rowOf (total earlier + (stackSize stack + 1))) (stackSize stack + 1) (stackWords stack) (0 ∷ 0 ∷ 1 ∷ 1 ∷ []) [] tail
-      refl refl refl (simp append-nil)
+      around-finer n earlier (some reader) later reductions moves rest (rowOf (total earlier + (stackSize stack + 1))) (stackSize stack + 1)
+      (stackWords stack) (0 ∷ 0 ∷ 1 ∷ 1 ∷ []) [] tail refl refl refl (simp append-nil)
 
   -- a slot more is free
-  freed : tailWords n (total earlier + (stackSize stack + total later)) reductions ≡ 0 ∷ 0 ∷ 0 ∷ 0 ∷ tailWords n (total earlier + (stackSize stack + 1 + total later)) reductions
+  freed : tailWords n (total earlier + (stackSize stack + total later)) reductions
+      ≡ 0 ∷ 0 ∷ 0 ∷ 0 ∷ tailWords n (total earlier + (stackSize stack + 1 + total later)) reductions
   freed =
-      let e : 4 * (n + 2 - (total earlier + (stackSize stack + total later))) ≡ suc (suc (suc (suc (4 * (n + 2 - (total earlier + (stackSize stack + 1 + total later))))))) = omega (arith, gone-total gone) in
+      let e : 4 * (n + 2 - (total earlier + (stackSize stack + total later)))
+      ≡ suc (suc (suc (suc (4 * (n + 2 - (total earlier + (stackSize stack + 1 + total later))))))) = omega (arith, gone-total gone) in
       rw e
 
   will : encode n (state accepted (moves + 1)) ++ rest ≡ flat (parts (moves + 1) (total earlier + stackSize stack) (0 ∷ 0 ∷ 0 ∷ 0 ∷ []))
@@ -135,9 +139,9 @@ pub record IsLast (unread : List (Unread Span)) (later : List (Option (Chunk Spa
 pub accepting-last : {t N n : ℕ} {s : State Span} (k : Kept t N n s) {c : ℕ} (l : Live (s .chunks) c) (j : ℕ) (mark : Bool) (u w v : Span) (unread : List (Unread Span))
     → l .chunk .stack ≡ nonterminalOn j u ∷ terminalOn mark 0 w ∷ [] → l .chunk .unread ≡ terminalAt 0 v ∷ unread → IsLast unread (l .after)
 accepting-last {n = n} k l j mark u w v unread stack-is unread-is =
-    let others : List (Unread Span) = symbolsOf (live (l .after)) in
-    let around : Tiles n 0 (symbolsOf (live (l .before)) ++ (terminalAt 0 w ∷ nonterminalAt j u ∷ terminalAt 0 v ∷ (unread ++ others))) (k .end) =
+    let others : List (Unread Span) = symbolsAlong (live (l .after)) in
+    let around : Tiles n 0 (symbolsAlong (live (l .before)) ++ (terminalAt 0 w ∷ nonterminalAt j u ∷ terminalAt 0 v ∷ (unread ++ others))) (k .end) =
     rw (stack-is, unread-is) at (rw (symbols-around k l) at (k .tiles)) in
-    let e = end-is-last (symbolsOf (live (l .before))) (unread ++ others) (terminalAt 0 w) (nonterminalAt j u) (terminalAt 0 v) refl refl around in
+    let e = end-is-last (symbolsAlong (live (l .before))) (unread ++ others) (terminalAt 0 w) (nonterminalAt j u) (terminalAt 0 v) refl refl around in
     let none-left : length unread + length others ≡ 0 = sym (length-append unread others) ∙ ap length (e .no-after) in
     record { no-more = no-symbol unread (omega arith); all-gone = nothing-live k l (no-symbol others (omega arith)) }

@@ -23,7 +23,8 @@ use Rattle.machine.specs.Chunks.{Status, running, stuck, Chunk}
 use Rattle.machine.specs.States.{State, madeAt}
 use Rattle.machine.specs.Allowed.{AllGone, no-number, one-gone, Live}
 use Rattle.machine.specs.AllowedExactly.{live-set}
-use Rattle.area.specs.Layout.{need, size, block, stackSize, stackWords, marks, unreadSize, unreadWords, chunkSize, chunkWords, statusWord, row, total, rows, slots, front, tailWords, encode, tableAt, rowWord, slotWord, madeAtWord}
+use Rattle.area.specs.Layout.{need, size, block, stackSize, stackWords, marks, unreadSize, unreadWords, chunkSize, chunkWords, statusWord, row}
+use Rattle.area.specs.Layout.{total, rows, slots, front, tailWords, encode, tableAt, rowWord, slotWord, madeAtWord}
 use Rattle.area.specs.Lengths.{length-stack, length-row, length-rows, length-slots, rows-append, slots-append, total-append, within-slots, encode-length}
 use Rattle.area.specs.Kept.{Kept}
 use Rattle.area.specs.Encoded.{tokens-at, chunks-at}
@@ -62,7 +63,13 @@ pub around : (n : ℕ) (earlier : List (Option (Chunk Span))) (chunk : Option (C
     ≡ flat (partsAround n earlier chunk later reductions moves rest)
 unfolding encode
 around n earlier chunk later reductions moves rest =
-    rw (length-append earlier (chunk ∷ later), rows-append 0 earlier (chunk ∷ later), slots-append earlier (chunk ∷ later), total-append earlier (chunk ∷ later), zero-add (total earlier))
+    rw (
+      length-append earlier (chunk ∷ later),
+      rows-append 0 earlier (chunk ∷ later),
+      slots-append earlier (chunk ∷ later),
+      total-append earlier (chunk ∷ later),
+      zero-add (total earlier),
+    )
     (regrouped (front n (length earlier + suc (length later)) moves (length reductions)) (rows 0 earlier) (row (total earlier) chunk)
     (rows (total earlier + chunkSize chunk) later) (slots earlier) (chunkWords chunk) (slots later)
     (tailWords n (total earlier + (chunkSize chunk + total later)) reductions) rest)
@@ -123,7 +130,8 @@ module _ (n : ℕ) (s : State Span) (rest : List ℕ) {c : ℕ} (l : Live (s .ch
       → encode n (madeAt c s made chunk) ++ rest
       ≡ encode n (record { chunks = l .before ++ (some chunk ∷ l .after); reductions = s .reductions ++ made; moves = s .moves + 1 }) ++ rest
   made-words made chunk =
-      ap (λ (chunks : List (Option (Chunk Span))). encode n (record { chunks = chunks; reductions = s .reductions ++ made; moves = s .moves + 1 }) ++ rest) (live-set l (some chunk))
+      ap (λ (chunks : List (Option (Chunk Span))). encode n (record { chunks = chunks; reductions = s .reductions ++ made; moves = s .moves + 1 }) ++ rest)
+      (live-set l (some chunk))
 
   -- .. that adds no reduction
   pub read-words : (chunk : Chunk Span)
@@ -131,7 +139,8 @@ module _ (n : ℕ) (s : State Span) (rest : List ℕ) {c : ℕ} (l : Live (s .ch
       ≡ encode n (record { chunks = l .before ++ (some chunk ∷ l .after); reductions = s .reductions; moves = s .moves + 1 }) ++ rest
   read-words chunk =
       made-words [] chunk
-      ∙ ap (λ (reductions : List (Reduction Span)). encode n (record { chunks = l .before ++ (some chunk ∷ l .after); reductions = reductions; moves = s .moves + 1 }) ++ rest) (append-nil (s .reductions))
+      ∙ ap (λ (reductions : List (Reduction Span)). encode n (record { chunks = l .before ++ (some chunk ∷ l .after); reductions = reductions; moves = s .moves + 1 }) ++ rest)
+      (append-nil (s .reductions))
 
   in-parts : encode n s ++ rest ≡ flat (partsAround n (l .before) (some (l .chunk)) (l .after) (s .reductions) (s .moves) rest)
   in-parts = listed-words refl ∙ around n (l .before) (some (l .chunk)) (l .after) (s .reductions) (s .moves) rest
@@ -186,7 +195,8 @@ module _ (n : ℕ) (s : State Span) (rest : List ℕ) {c : ℕ} (l : Live (s .ch
       (simp (length-append, length-rows, length-slots) (omega (arith, chunks-count)))
 
   -- the stack's words, from `from` up to `head`
-  pub stack-stands : Stands (encode n s ++ rest) (slotAt (encode n s ++ rest) (fromOf (encode n s ++ rest) c)) (slotAt (encode n s ++ rest) (headOf (encode n s ++ rest) c)) (l .chunk .stack)
+  pub stack-stands : Stands (encode n s ++ rest) (slotAt (encode n s ++ rest) (fromOf (encode n s ++ rest) c))
+      (slotAt (encode n s ++ rest) (headOf (encode n s ++ rest) c)) (l .chunk .stack)
   stack-stands = record {
     below = earlierWords;
     above = unreadWords (l .chunk .unread) ++ laterWords;
@@ -211,7 +221,8 @@ module _ (n : ℕ) (s : State Span) (rest : List ℕ) {c : ℕ} (l : Live (s .ch
         ∙ ap (λ (u : List (Unread Span)). earlierWords ++ (stackWords (l .chunk .stack) ++ (unreadWords u ++ laterWords))) next
         ∙ simp append-assoc
 
-    next-word : (k : ℕ) → slotWord (encode n s ++ rest) (headOf (encode n s ++ rest) c) k ≡ getD (before-next ++ (block 0 x ++ (unreadWords unread ++ laterWords))) (length before-next + k) 0
+    next-word : (k : ℕ)
+        → slotWord (encode n s ++ rest) (headOf (encode n s ++ rest) c) k ≡ getD (before-next ++ (block 0 x ++ (unreadWords unread ++ laterWords))) (length before-next + k) 0
     next-word k = rw (← next-at) (ap (λ (words : List ℕ). getD words (length before-next + k) 0) next-words)
 
     pub next-symbol : slotWord (encode n s ++ rest) (headOf (encode n s ++ rest) c) 0 ≡ wordOf (symbol x)

@@ -17,7 +17,7 @@ use Rattle.area.specs.Layout.{more, size, block, zeros}
 use Rattle.reader.specs.MoveWords.{startOf, clearedOne, laidWords}
 
 -- zeros before a zero
-zeros-snoc : (k : ℕ) (q : List ℕ) → zeros k ++ 0 ∷ q ≡ 0 ∷ (zeros k ++ q)
+pub zeros-snoc : (k : ℕ) (q : List ℕ) → zeros k ++ 0 ∷ q ≡ 0 ∷ (zeros k ++ q)
 zeros-snoc zero q = refl
 zeros-snoc (suc k) q = ap (λ (l : List ℕ). 0 ∷ l) (zeros-snoc k q)
 

@@ -2,7 +2,7 @@
 -- the left side that replaces it covers just these slots, and its value is their span.
 -- Document 01, "Moves of a chunk": "the handle runs from the topmost marked one to the top, with the nonterminal just below that mark
 -- if there is one"; "The report": "rule, first place, place after the last".
--- Rests on KeptAround, Readings and MoveWords, on area's Tiling and on machine's Allowed.
+-- Rests on KeptAround, Readings and MoveWords, on area's Tiling and RowAfterTurn, and on machine's AllowedExactly.
 --
 -- Main definitions: SomeHandle, Covers.
 -- Main statements: stack-words, stack-slots, stack-marks, upper-stands; handle-splits, handle-marks, marks-none, marks-some; handle-covers,
@@ -14,19 +14,20 @@ use mathlib.Core.List.{List, [], _∷_, _++_, append-assoc, append-nil, map}
 use Prim.Native.Nat.{ℕ, _+_, _*_, _-_, _<_}
 use native.Mathlib.Omega.{arith}
 use lib.ListN.{length, length-append}
-use Rattle.laws.specs.Tests.{eqb-false}
 use Rattle.language.specs.Symbols.{terminal}
 use Rattle.language.specs.Trees.{Span}
 use Rattle.machine.specs.Entries.{Unread, terminalAt, nonterminalAt, Entry, terminalOn, nonterminalOn, symbol, valueOf, stackSymbols, Handle, handleOf}
 use Rattle.machine.specs.RunsEnd.{terminalsOn, MarksFine, fine-nonterminal, fine-unmarked, fine-marked}
 use Rattle.machine.specs.Spans.{spanOf}
 use Rattle.machine.specs.States.{State, live}
+use Rattle.machine.specs.Starts.{symbolsAlong}
 use Rattle.machine.specs.Allowed.{HandleAbove, from-nonterminal, from-mark, up-to-unmarked, up-to-nonterminal, Live}
-use Rattle.machine.specs.AllowedExactly.{HandleView, no-handle, a-handle, handle-view}
+use Rattle.machine.specs.AllowedExactly.{handle-symbols, HandleView, no-handle, a-handle, handle-view}
 use Rattle.area.specs.Layout.{size, stackSize, stackWords, marks, total}
 use Rattle.area.specs.Lengths.{length-stack, stack-size, tiles-end}
-use Rattle.area.specs.Kept.{Lies, first-end, last-end, within, Tiles, tile, symbolsOf, Kept}
+use Rattle.area.specs.Kept.{Lies, first-end, last-end, within, Tiles, tile, Kept}
 use Rattle.area.specs.Tiling.{tiles-split, tiles-join, tiles-replaced}
+use Rattle.area.specs.RowAfterTurn.{handle-first}
 use Rattle.reader.specs.MoveWords.{Stands}
 use Rattle.reader.specs.Readings.{no-marks}
 use Rattle.reader.specs.KeptAround.{stack-tiles, unread-tiles, marks-fine, stack-terminals}
@@ -46,7 +47,8 @@ stack-marks [] below = omega arith
 stack-marks (e ∷ handle) below = omega (arith, stack-marks handle below)
 
 -- the upper part of a stack that stands there
-pub upper-stands : {area : List ℕ} {i j : ℕ} (handle below : List (Entry Span)) (from : ℕ) → from ≡ i + 4 * stackSize below → Stands area i j (handle ++ below) → Stands area from j handle
+pub upper-stands : {area : List ℕ} {i j : ℕ} (handle below : List (Entry Span)) (from : ℕ) → from ≡ i + 4 * stackSize below
+    → Stands area i j (handle ++ below) → Stands area from j handle
 upper-stands handle below from e s = record {
   below = s .below ++ stackWords below;
   above = s .above;
@@ -96,29 +98,6 @@ marks-some stack h = go (handle-view stack [])
     go (no-handle n) = absurd (omega (arith, no-marks n))
     go (a-handle {handle = handle} {found = found} a e) = record { handle = handle; below = found .below; above = a }
 
-symbols-split : (handle below : List (Entry Span)) → stackSymbols (handle ++ below) ≡ stackSymbols below ++ stackSymbols handle
-symbols-split [] below = sym (append-nil (stackSymbols below))
-symbols-split (e ∷ handle) below = rw (symbols-split handle below, append-assoc)
-
--- its first symbol is not #
-record Starts (symbols : List (Unread Span)) : Type 0 where
-  first : Unread Span
-  others : List (Unread Span)
-  are : symbols ≡ first ∷ others
-  not-end : symbol first ≡ terminal 0 → ⊥
-
-starts : {stack handle below : List (Entry Span)} → HandleAbove stack handle below → MarksFine stack → Starts (stackSymbols handle)
-starts (from-nonterminal {a = a} {k = k} {v = v} {w = w}) o =
-    record { first = nonterminalAt k w; others = terminalAt a v ∷ []; are = refl; not-end = λ c. let z : _≡_ {A = ℕ} 0 1 = cc in omega arith }
-starts (from-mark {a = a} {v = v} h) (fine-marked i o) =
-    record { first = terminalAt a v; others = []; are = refl; not-end = λ c. let z : a ≡ 0 = cc in eqb-false a 0 i z }
-starts (up-to-unmarked {a = a} {v = v} h) (fine-unmarked o) =
-    let r = starts h o in
-    record { first = r .first; others = r .others ++ (terminalAt a v ∷ []); are = ap (λ (l : List (Unread Span)). l ++ (terminalAt a v ∷ [])) (r .are); not-end = r .not-end }
-starts (up-to-nonterminal {k = k} {v = v} h) (fine-nonterminal o) =
-    let r = starts h o in
-    record { first = r .first; others = r .others ++ (nonterminalAt k v ∷ []); are = ap (λ (l : List (Unread Span)). l ++ (nonterminalAt k v ∷ [])) (r .are); not-end = r .not-end }
-
 -- the span of the slots from `from` up to `head`
 pub record Covers (from head left : ℕ) (v : Span) : Type 0 where
   pub low : 0 < from
@@ -155,10 +134,10 @@ module _ {t N n : ℕ} {s : State Span} (k : Kept t N n s) {c : ℕ} (l : Live (
   pub handle-covers : (left : ℕ) (b : Unread Span) (unread : List (Unread Span)) → l .chunk .unread ≡ b ∷ unread
       → Covers (total (l .before) + stackSize below) (total (l .before) + stackSize (l .chunk .stack)) left (spanOf (map valueOf (stackSymbols handle)))
   handle-covers left b unread next =
-      let r = starts h (marks-fine k l) in
-      let others : List (Unread Span) = unread ++ symbolsOf (live (l .after)) in
+      let r = handle-first h (marks-fine k l) in
+      let others : List (Unread Span) = unread ++ symbolsAlong (live (l .after)) in
       let split : Tiles n (total (l .before)) (stackSymbols below ++ stackSymbols handle) (total (l .before) + stackSize (l .chunk .stack)) =
-      rw (ap stackSymbols (handle-splits h) ∙ symbols-split handle below) at (stack-tiles k l) in
+      rw (handle-symbols h) at (stack-tiles k l) in
       let parts = tiles-split (stackSymbols below) (stackSymbols handle) split in
       let from-is : parts .middle ≡ total (l .before) + stackSize below = omega (arith, tiles-end (parts .left), stack-size below) in
       let here : Tiles n (total (l .before) + stackSize below) (r .first ∷ r .others) (total (l .before) + stackSize (l .chunk .stack)) =

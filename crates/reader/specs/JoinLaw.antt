@@ -1,7 +1,7 @@
 -- Two chunks joined: what `joinWords` makes of a state's words, and what it asks of them.
 -- Document 01, "Moves of a chunk": "Joining chunk c to the next live chunk .. is one move. The stack is c's. Unread is what c had
 -- unread, then the other's stack symbols, then its unread symbols. .. The result is numbered c; the other number is gone."
--- Rests on AroundChunk and MoveWords, and on machine's AllowedExactly.
+-- Rests on AroundChunk and MoveWords, on area's StartWords, and on machine's AllowedExactly.
 --
 -- Main definition: afterJoin. Main statements: join-law, join-ready, join-becomes.
 use mathlib.Core.Path.{_≡_, refl, sym, ap, _∙_}
@@ -20,8 +20,10 @@ use Rattle.machine.specs.Chunks.{Chunk, atRest, joined}
 use Rattle.machine.specs.States.{State, became, join, joinWith}
 use Rattle.machine.specs.Allowed.{AllGone, Live, NextLive}
 use Rattle.machine.specs.AllowedExactly.{live-to, live-take, live-drop, next-to, numbersLeft}
-use Rattle.area.specs.Layout.{more, size, block, markWord, stackSize, stackWords, marks, unreadSize, unreadWords, chunkSize, statusWord, row, total, rows, slots, zeros, front, tailWords, encode, tableAt}
+use Rattle.area.specs.Layout.{more, size, block, markWord, stackSize, stackWords, marks, unreadSize, unreadWords, chunkSize, statusWord}
+use Rattle.area.specs.Layout.{row, total, rows, slots, zeros, front, tailWords, encode, tableAt}
 use Rattle.area.specs.Lengths.{length-stack, length-unread, length-rows, length-slots, rows-append, slots-append, total-append, unread-append, stack-size}
+use Rattle.area.specs.StartWords.{words-append}
 use Rattle.area.specs.Kept.{Kept}
 use Rattle.area.specs.Encoded.{chunks-at}
 use Rattle.reader.specs.MoveWords.{fromOf, headOf, unmarkWords, goneWords, oneWords, joinWords, Joinable}
@@ -65,10 +67,6 @@ unmark-block p mark x q =
     ap (λ (count : ℕ). unmarkWords (p ++ (block mark x ++ q)) (length p + 1) count) e ∙ ap (λ (area : List ℕ). unmarkWords area (length p + 1 + 4) (more x)) f
     ∙ unmark-none (p ++ (block 0 x ++ q)) (length p + 1 + 4) (more x) (inside-block p 0 x q)
 
-unread-words : (xs ys : List (Unread Span)) → unreadWords (xs ++ ys) ≡ unreadWords xs ++ unreadWords ys
-unread-words [] ys = refl
-unread-words (x ∷ xs) ys = rw (unread-words xs ys, append-assoc)
-
 unmark-stack : (p : List ℕ) (stack : List (Entry Span)) (q : List ℕ)
     → unmarkWords (p ++ (stackWords stack ++ q)) (length p + 1) (stackSize stack) ≡ p ++ (unreadWords (stackSymbols stack) ++ q)
 unmark-stack p [] q = refl
@@ -83,7 +81,7 @@ unmark-stack p (e ∷ stack) q =
       f,
       ← append-assoc p w (b ++ q),
       unmark-block (p ++ w) (markWord e) (unmarked e) q,
-      unread-words (stackSymbols stack) (unmarked e ∷ []),
+      words-append (stackSymbols stack) (unmarked e ∷ []),
     )
     (simp (append-assoc, append-nil))
 
@@ -193,8 +191,8 @@ module _ (n : ℕ) (earlier : List (Option (Chunk Span))) (left : Chunk Span) (b
         h,
         f,
         g,
-        unread-words (left .unread) (z ++ right .unread),
-        unread-words z (right .unread),
+        words-append (left .unread) (z ++ right .unread),
+        words-append z (right .unread),
       )
       (regrouped′ (front n count (moves + 1) (length reductions)) (rows 0 earlier)
       (statusWord (left .status) ∷ total earlier ∷ (total earlier + stackSize (left .stack)) ∷ end ∷ marks (left .stack) ∷ []) (rows 0 between) (row 0 none) (rows end later)
@@ -245,7 +243,8 @@ module _ (n : ℕ) (earlier : List (Option (Chunk Span))) (left : Chunk Span) (b
         gone-part (parts moves v (row seam (some right)) (unreadWords (stackSymbols (right .stack)))) 4 d _ _ _ _ _ (omega arith) refl
         (omega (arith, length-rows 0 earlier, length-rows 0 between))
 
-    law : joinWords (encode n two ++ rest) c d ≡ encode n (record { chunks = earlier ++ (some one ∷ (between ++ (none ∷ later))); reductions = reductions; moves = moves + 1 }) ++ rest
+    law : joinWords (encode n two ++ rest) c d
+        ≡ encode n (record { chunks = earlier ++ (some one ∷ (between ++ (none ∷ later))); reductions = reductions; moves = moves + 1 }) ++ rest
     unfolding joinWords oneWords there
     law =
         rw (from-word n two rest there, head-word n two rest there, end-word n two rest there, right-from, was, will, unmarked-words, tabled, emptied)
@@ -286,7 +285,8 @@ module _ (s : State Span) {c : ℕ} (l : Live (s .chunks) c) (m : NextLive (l .a
   module _ (n : ℕ) (rest : List ℕ) where
     pub join-law : joinWords (encode n s ++ rest) c nextNumber ≡ encode n afterJoin ++ rest
     join-law =
-        ap (λ (chunks : List (Option (Chunk Span))). joinWords (encode n (record { chunks = chunks; reductions = s .reductions; moves = s .moves }) ++ rest) c nextNumber) all-chunks
+        ap (λ (chunks : List (Option (Chunk Span))). joinWords (encode n (record { chunks = chunks; reductions = s .reductions; moves = s .moves }) ++ rest) c nextNumber)
+        all-chunks
         ∙ law n (l .before) (l .chunk) (m .between) (m .all-gone) (m .chunk) (m .beyond) (s .reductions) (s .moves) rest c nextNumber (l .number-is) refl
 
 pub join-ready : {t N n : ℕ} {s : State Span} (k : Kept t N n s) (rest : List ℕ) {c : ℕ} (l : Live (s .chunks) c) (m : NextLive (l .after))

@@ -14,11 +14,12 @@ use Rattle.language.specs.Trees.{Span}
 use Rattle.machine.specs.Entries.{stackSymbols}
 use Rattle.machine.specs.Chunks.{Chunk}
 use Rattle.machine.specs.States.{State, live}
+use Rattle.machine.specs.Starts.{symbolsAlong}
 use Rattle.machine.specs.RunsEnd.{terminalsOn, MarksFine}
 use Rattle.machine.specs.Bounded.{terminalsIn, AllFine, all-fine-cons}
 use Rattle.machine.specs.Allowed.{AllGone, no-number, one-gone, Live}
 use Rattle.area.specs.Layout.{stackSize, total}
-use Rattle.area.specs.Kept.{Tiles, AllInRange, symbolsOf, LastHolds, later-holds, Ending, whole, accepted, Kept}
+use Rattle.area.specs.Kept.{Tiles, AllInRange, LastHolds, later-holds, Ending, whole, accepted, Kept}
 use Rattle.area.specs.Lengths.{stack-size, symbols-size, tiles-end}
 use Rattle.area.specs.RowCounts.{holds-some}
 use Rattle.area.specs.Tiling.{Split, tiles-split, ranged-split}
@@ -31,7 +32,7 @@ live-around [] chunk later = refl
 live-around (none ∷ earlier) chunk later = live-around earlier chunk later
 live-around (some d ∷ earlier) chunk later = ap (λ (chunks : List (Chunk Span)). d ∷ chunks) (live-around earlier chunk later)
 
-symbols-append : (chunks others : List (Chunk Span)) → symbolsOf (chunks ++ others) ≡ symbolsOf chunks ++ symbolsOf others
+symbols-append : (chunks others : List (Chunk Span)) → symbolsAlong (chunks ++ others) ≡ symbolsAlong chunks ++ symbolsAlong others
 symbols-append [] others = refl
 symbols-append (c ∷ chunks) others = rw (symbols-append chunks others, append-assoc, append-assoc)
 
@@ -66,18 +67,18 @@ module _ {t N n : ℕ} {s : State Span} (k : Kept t N n s) {c : ℕ} (l : Live (
   live-are = ap live (l .chunks-are) ∙ live-around (l .before) (l .chunk) (l .after)
 
   -- the row's symbols, around those of the chunk
-  pub symbols-around : symbolsOf (live (s .chunks))
-      ≡ symbolsOf (live (l .before)) ++ (stackSymbols (l .chunk .stack) ++ (l .chunk .unread ++ symbolsOf (live (l .after))))
-  symbols-around = ap symbolsOf live-are ∙ symbols-append (live (l .before)) (l .chunk ∷ live (l .after))
+  pub symbols-around : symbolsAlong (live (s .chunks))
+      ≡ symbolsAlong (live (l .before)) ++ (stackSymbols (l .chunk .stack) ++ (l .chunk .unread ++ symbolsAlong (live (l .after))))
+  symbols-around = ap symbolsAlong live-are ∙ symbols-append (live (l .before)) (l .chunk ∷ live (l .after))
 
-  all-tiles : Tiles n 0 (symbolsOf (live (l .before)) ++ (stackSymbols (l .chunk .stack) ++ (l .chunk .unread ++ symbolsOf (live (l .after))))) (k .end)
+  all-tiles : Tiles n 0 (symbolsAlong (live (l .before)) ++ (stackSymbols (l .chunk .stack) ++ (l .chunk .unread ++ symbolsAlong (live (l .after))))) (k .end)
   all-tiles = rw symbols-around at (k .tiles)
 
-  from-split : Split n 0 (symbolsOf (live (l .before))) (stackSymbols (l .chunk .stack) ++ (l .chunk .unread ++ symbolsOf (live (l .after)))) (k .end)
-  from-split = tiles-split (symbolsOf (live (l .before))) (stackSymbols (l .chunk .stack) ++ (l .chunk .unread ++ symbolsOf (live (l .after)))) all-tiles
+  from-split : Split n 0 (symbolsAlong (live (l .before))) (stackSymbols (l .chunk .stack) ++ (l .chunk .unread ++ symbolsAlong (live (l .after)))) (k .end)
+  from-split = tiles-split (symbolsAlong (live (l .before))) (stackSymbols (l .chunk .stack) ++ (l .chunk .unread ++ symbolsAlong (live (l .after)))) all-tiles
 
-  head-split : Split n (from-split .middle) (stackSymbols (l .chunk .stack)) (l .chunk .unread ++ symbolsOf (live (l .after))) (k .end)
-  head-split = tiles-split (stackSymbols (l .chunk .stack)) (l .chunk .unread ++ symbolsOf (live (l .after))) (from-split .right)
+  head-split : Split n (from-split .middle) (stackSymbols (l .chunk .stack)) (l .chunk .unread ++ symbolsAlong (live (l .after))) (k .end)
+  head-split = tiles-split (stackSymbols (l .chunk .stack)) (l .chunk .unread ++ symbolsAlong (live (l .after))) (from-split .right)
 
   from-is : from-split .middle ≡ total (l .before)
   from-is = omega (arith, tiles-end (from-split .left), symbols-size (l .before))
@@ -90,21 +91,21 @@ module _ {t N n : ℕ} {s : State Span} (k : Kept t N n s) {c : ℕ} (l : Live (
   stack-tiles = rw (from-is, head-is) at (head-split .left)
 
   -- the unread symbols, side by side from `head` on, with what later chunks hold
-  pub unread-tiles : Tiles n (total (l .before) + stackSize (l .chunk .stack)) (l .chunk .unread ++ symbolsOf (live (l .after))) (k .end)
+  pub unread-tiles : Tiles n (total (l .before) + stackSize (l .chunk .stack)) (l .chunk .unread ++ symbolsAlong (live (l .after))) (k .end)
   unread-tiles = rw head-is at (head-split .right)
 
-  all-ranged : AllInRange t N (stackSymbols (l .chunk .stack) ++ (l .chunk .unread ++ symbolsOf (live (l .after))))
+  all-ranged : AllInRange t N (stackSymbols (l .chunk .stack) ++ (l .chunk .unread ++ symbolsAlong (live (l .after))))
   all-ranged =
-      ranged-split (symbolsOf (live (l .before))) (stackSymbols (l .chunk .stack) ++ (l .chunk .unread ++ symbolsOf (live (l .after))))
+      ranged-split (symbolsAlong (live (l .before))) (stackSymbols (l .chunk .stack) ++ (l .chunk .unread ++ symbolsAlong (live (l .after))))
       (rw symbols-around at (k .ranged)) .1
 
   pub stack-ranged : AllInRange t N (stackSymbols (l .chunk .stack))
-  stack-ranged = ranged-split (stackSymbols (l .chunk .stack)) (l .chunk .unread ++ symbolsOf (live (l .after))) all-ranged .0
+  stack-ranged = ranged-split (stackSymbols (l .chunk .stack)) (l .chunk .unread ++ symbolsAlong (live (l .after))) all-ranged .0
 
   pub unread-ranged : AllInRange t N (l .chunk .unread)
   unread-ranged =
-      ranged-split (l .chunk .unread) (symbolsOf (live (l .after)))
-      (ranged-split (stackSymbols (l .chunk .stack)) (l .chunk .unread ++ symbolsOf (live (l .after))) all-ranged .1) .0
+      ranged-split (l .chunk .unread) (symbolsAlong (live (l .after)))
+      (ranged-split (stackSymbols (l .chunk .stack)) (l .chunk .unread ++ symbolsAlong (live (l .after))) all-ranged .1) .0
 
   pub marks-fine : MarksFine (l .chunk .stack)
   marks-fine = fine-at (live (l .before)) (l .chunk) (live (l .after)) (rw live-are at (k .fine))
@@ -113,10 +114,10 @@ module _ {t N n : ℕ} {s : State Span} (k : Kept t N n s) {c : ℕ} (l : Live (
   stack-terminals = rw live-are (terminals-at (live (l .before)) (l .chunk) (live (l .after)))
 
   -- where no later chunk holds a symbol, no later chunk is live
-  pub nothing-live : symbolsOf (live (l .after)) ≡ [] → AllGone (l .after)
+  pub nothing-live : symbolsAlong (live (l .after)) ≡ [] → AllGone (l .after)
   nothing-live h = go (live (l .after)) refl (rw live-are at (k .ending)) h
     where
-      go : (others : List (Chunk Span)) → live (l .after) ≡ others → Ending n (live (l .before) ++ (l .chunk ∷ others)) (k .end) → symbolsOf others ≡ [] → AllGone (l .after)
+      go : (others : List (Chunk Span)) → live (l .after) ≡ others → Ending n (live (l .before) ++ (l .chunk ∷ others)) (k .end) → symbolsAlong others ≡ [] → AllGone (l .after)
       go [] q e h = none-live (l .after) q
       go (d ∷ others) q e h =
           let two : 1 < length (live (l .before) ++ (l .chunk ∷ d ∷ others)) = omega (arith, length-append (live (l .before)) (l .chunk ∷ d ∷ others)) in

@@ -45,8 +45,13 @@ first-live test (none ∷ chunks) i h =
   where
     one-further : {o : Option ℕ} → NextIs chunks (suc i) o → NextIs (none ∷ chunks) i o
     one-further (next-is {d = d} m q) =
-        next-is {d = d} (record { between = none ∷ m .between; chunk = m .chunk; beyond = m .beyond; all-gone = one-gone (m .all-gone); after-is = ap (λ (l : List (Option (Chunk Span))). none ∷ l) (m .after-is) })
-        (omega arith)
+        next-is {d = d} (record {
+          between = none ∷ m .between;
+          chunk = m .chunk;
+          beyond = m .beyond;
+          all-gone = one-gone (m .all-gone);
+          after-is = ap (λ (l : List (Option (Chunk Span))). none ∷ l) (m .after-is);
+        }) (omega arith)
     one-further (no-next g) = no-next (one-gone g)
 
 module _ (n : ℕ) (s : State Span) (rest : List ℕ) where

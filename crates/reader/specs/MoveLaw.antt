@@ -31,7 +31,7 @@ use Rattle.machine.specs.Allowed.{runs, isStuck, HandleAbove, EndAndAxiom, end-
 use Rattle.machine.specs.AllowedExactly.{handle-to, whole-from, live-to}
 use Rattle.area.specs.Layout.{markWord, stackSize, marks, unreadSize, statusWord, encode, rowWord, slotWord}
 use Rattle.area.specs.Lengths.{within-slots}
-use Rattle.area.specs.Kept.{InRange, AllInRange, in-range, Kept}
+use Rattle.area.specs.Kept.{SymbolInRange, AllInRange, in-range, Kept}
 use Rattle.reader.specs.MoveWords.{fromOf, headOf, endOf, pushWords, stickWords, acceptWords, reduceWords}
 use Rattle.reader.specs.AroundChunk.{status-word, head-word, end-word, from-word, next-symbol}
 use Rattle.reader.specs.KeptAround.{unread-ranged}
@@ -88,11 +88,11 @@ word-terminal : (x : Unread Span) (b : ℕ) → wordOf (symbol x) ≡ b → b < 
 word-terminal (terminalAt a v) b e h = (v, ap (λ (i : ℕ). terminalAt i v) e)
 word-terminal (nonterminalAt k v) b e h = absurd (omega arith)
 
-word-nonterminal : (t N : ℕ) (x : Unread Span) (b : ℕ) → t < 256 → InRange t N (symbol x) → wordOf (symbol x) ≡ b → 256 ≤ b → (k : ℕ) × (v : Span) × (x ≡ nonterminalAt k v)
+word-nonterminal : (t N : ℕ) (x : Unread Span) (b : ℕ) → t < 256 → SymbolInRange t N (symbol x) → wordOf (symbol x) ≡ b → 256 ≤ b → (k : ℕ) × (v : Span) × (x ≡ nonterminalAt k v)
 word-nonterminal t N (terminalAt a v) b f r e h = absurd (omega arith)
 word-nonterminal t N (nonterminalAt k v) b f r e h = (k, v, refl)
 
-first-ranged : {t N : ℕ} {x : Unread Span} {symbols : List (Unread Span)} → AllInRange t N (x ∷ symbols) → InRange t N (symbol x)
+first-ranged : {t N : ℕ} {x : Unread Span} {symbols : List (Unread Span)} → AllInRange t N (x ∷ symbols) → SymbolInRange t N (symbol x)
 first-ranged (in-range i r) = i
 
 -- "the stack is # and an axiom"
@@ -208,11 +208,11 @@ module _ (words bytes : List ℕ) where
         → Stepped n s rest c area
     terminal-so x b e h use-it q = let z = word-terminal x b e h in use-it (z .0) (rw (z .1) at q)
 
-    nonterminal-so : {area : List ℕ} (x : Unread Span) (b : ℕ) → t < 256 → InRange t N (symbol x) → wordOf (symbol x) ≡ b → 256 ≤ b
+    nonterminal-so : {area : List ℕ} (x : Unread Span) (b : ℕ) → t < 256 → SymbolInRange t N (symbol x) → wordOf (symbol x) ≡ b → 256 ≤ b
         → ((j : ℕ) (v : Span) → Chunks (nonterminalAt j v) → Stepped n s rest c area) → Chunks x → Stepped n s rest c area
     nonterminal-so x b f i e h use-it q = let z = word-nonterminal t N x b f i e h in use-it (z .0) (z .1) (rw (z .2) at q)
 
-    by-rule : {b : ℕ} {area : List ℕ} (x : Unread Span) → t < 256 → InRange t N (symbol x) → wordOf (symbol x) ≡ b → Chunks x → Leaves words-then c stack b area
+    by-rule : {b : ℕ} {area : List ℕ} (x : Unread Span) → t < 256 → SymbolInRange t N (symbol x) → wordOf (symbol x) ≡ b → Chunks x → Leaves words-then c stack b area
         → Stepped n s rest c area
     by-rule {b} x f i e q (rule-1-stuck h top) = nonterminal-so x b f i e h (λ j v p. stuck-so sideBySide (nonterminalAt j v) p (rw top)) q
     by-rule {b} x f i e q (rule-1 h top) = nonterminal-so x b f i e h (λ j v p. pushed-so (nonterminalOn j v) p (rw top)) q

@@ -1,7 +1,7 @@
 -- When exactly the one-call parse gives 11, for its work area and for its report.
 -- Document 01: "The one-call parse checks 1 to 9 by number, then 11 for the work area, then 17 to 20, then 11 for the report"; 11 NO ROOM "the
 -- run to be written is too short", "words or bytes needed".
--- Rests on ParseCall and ParseLaws, on area's Start, machine's Answers and UncutRow, and language's Loads.
+-- Rests on ParseCall and ParseLaws, on area's Start, StartKept and EndMarkOfShape, machine's Answers and UncutRow, and language's Loads.
 --
 -- Main definitions: Checked (1 to 9 pass), ParseNoRoom. Main statements: parse-area-given, parse-begins, parse-room-given.
 use mathlib.Core.Path.{_≡_, refl, sym, ap, _∙_}
@@ -9,10 +9,10 @@ use mathlib.Core.Bool.{true≢false}
 use mathlib.Core.Logic.{_↔_}
 use mathlib.Core.List.{List, []}
 use Prim.Native.Nat.{ℕ, _≤_, _<_}
-use native.Mathlib.Decide.{decLe}
 use native.Mathlib.Omega.{arith}
 use lib.ListN.{length}
 use Rattle.laws.specs.Least.{Nowhere}
+use Rattle.laws.specs.Tests.{le-unless}
 use Rattle.language.specs.declared.Refusal.{Refusal}
 use Rattle.language.specs.declared.Refusal.the-variants.{NoRoom}
 use Rattle.language.specs.declared.Answer.{Answer}
@@ -24,12 +24,15 @@ use Rattle.language.specs.Matrix.{matrixOf}
 use Rattle.language.specs.Loads.{Accepted, loadAnswer, load-room-given, accepted-exactly}
 use Rattle.machine.specs.States.{Outcome, refusedRow}
 use Rattle.machine.specs.Answers.{NoRoomForReport, outcome-room-given}
+use Rattle.machine.specs.TableOf.{own-end-mark, own-laws}
 use Rattle.machine.specs.UncutRow.{Verdict, accepted, refused, first-refusal-number, run-verdict}
 use Rattle.area.specs.Layout.{need}
+use Rattle.area.specs.EndMarkOfShape.{own-shape}
+use Rattle.area.specs.StartKept.{no-end}
 use Rattle.area.specs.Start.{StartInput, GrammarBroken, grammar-broken, NoTokens, TooMany, WrongToken, WrongCut, too-many-cuts, cut-above, cut-below}
 use Rattle.area.specs.Start.{NoRoomForRow, no-room, startAnswer, Startable, start-room-given, starts-exactly}
 use Rattle.reader.specs.ParseCall.{parseOutcome, thenStart, parseBegun, parsedAnswer, parseAnswer}
-use Rattle.reader.specs.ParseLaws.{shape, laws, ends, tokens-not-end, budget, outcome-run}
+use Rattle.reader.specs.ParseLaws.{budget, outcome-run}
 
 -- what parse lends to start: the matrix of an accepted load, and no cuts
 abbrev pub lent : List ℕ → List ℕ → ℕ → StartInput
@@ -51,7 +54,7 @@ pub data ParseNoRoom (words tokens : List ℕ) (room reportRoom v : ℕ) : Type 
 module _ (words tokens : List ℕ) (room : ℕ) where
   module _ (a : Accepted words) where
     not-broken : Nowhere (GrammarBroken (lent words tokens room))
-    not-broken v (grammar-broken f q) = true≢false (sym (shape words a) ∙ f)
+    not-broken v (grammar-broken f q) = true≢false (sym (own-shape a) ∙ f)
 
     loaded : loadAnswer words 4096 ≡ Done
     loaded = accepted-exactly words 4096 .1 (a, omega arith)
@@ -102,7 +105,7 @@ module _ (words tokens : List ℕ) (room : ℕ) where
       out (load-refuses q) e = let z : _≡_ {A = ℕ} 0 1 = cc in absurd (omega arith)
       out (start-answers a q) e = (a, starts-exactly words (matrixOf (grammarOf words)) tokens [] room .0 (q ∙ e))
 
-  checked-starts : Checked words tokens room → need (length tokens) 1 ≤ room → Startable (lent words tokens room)
+  pub checked-starts : Checked words tokens room → need (length tokens) 1 ≤ room → Startable (lent words tokens room)
   checked-starts k h = record {
     in-shape = not-broken (k .loads);
     some-token = k .some-token;
@@ -119,16 +122,12 @@ module _ (words tokens : List ℕ) (room : ℕ) where
   starts-checked a s = record { loads = a; some-token = s .some-token; few-tokens = s .few-tokens; right-tokens = s .right-tokens }
 
   starts-enough : Startable (lent words tokens room) → need (length tokens) 1 ≤ room
-  starts-enough s = go (decLe (need (length tokens) 1) room)
-    where
-      go : Dec (need (length tokens) 1 ≤ room) → need (length tokens) 1 ≤ room
-      go (yes l) = l
-      go (no l) = absurd (s .room-enough (need (length tokens) 1) (no-room (omega arith) refl))
+  starts-enough s = le-unless (need (length tokens) 1) room (λ h. s .room-enough (need (length tokens) 1) (no-room h refl))
 
   -- the outcome of a row that is read is never 11
   outcome-never : Accepted words → Startable (lent words tokens room) → (v : ℕ) → parseOutcome words tokens ≡ refusedRow (NoRoom v) → ⊥
   outcome-never a can v e =
-      let r = run-verdict (laws words a) (ends words a) (λ i vs. refl) tokens (tokens-not-end words a tokens can) (budget words a tokens can) (omega arith) in
+      let r = run-verdict (own-laws a) (own-end-mark a) (λ i vs. refl) tokens (no-end can) (budget words a tokens can) (omega arith) in
       go (r .3) (outcome-run words a tokens can (r .2) ∙ e)
     where
       go : {n : ℕ} {o : Outcome} → Verdict (grammarOf words) tokens n o → o ≡ refusedRow (NoRoom v) → ⊥

@@ -1,23 +1,22 @@
 -- The one-call parse by what its code finds in the words: a row that has started, read until it rests, and what its words then say.
 -- Document 01: "The front-to-back parse is C = 1, also offered as one call"; 17 to 20 "the finished row stuck so"; "The report": an uncut row's
 -- reductions are made in the report's order, so that nothing is left to put in order.
--- Rests on ParseCall and RunMoves, on machine's UncutRow and ReadThrough, area's Start, Safe, InShape and Decode, and report's OutcomeWords.
+-- Rests on ParseCall and RunMoves, on machine's UncutRow and ReadThrough, area's Start, StartKept, Safe, InShape and Decode, and report's OutcomeWords.
 --
 -- Main definitions: Begun (a row has started), Finished (its words once it rests), Parsed.
 -- Main statements: begun-runs, begun-few, begun-parsed, row-read; not-loaded, not-started, begun, parsed.
 use mathlib.Core.Path.{_≡_, refl, sym, ap, subst, _∙_}
 use mathlib.Core.Bool.{true}
 use mathlib.Core.List.{List, [], _∷_, _++_, append-nil}
-use Prim.Native.Nat.{ℕ, suc, _+_, _*_, _≤_, _<_}
+use Prim.Native.Nat.{ℕ, _+_, _*_, _≤_, _<_}
 use native.Mathlib.Omega.{arith}
 use lib.ListN.{length, getD, drop, length-append, drop-of-length-le}
-use Rattle.laws.specs.Tests.{ne-eqb}
 use Rattle.language.specs.declared.Refusal.{Refusal}
 use Rattle.language.specs.declared.Answer.{Answer}
 use Rattle.language.specs.declared.Answer.the-variants.{Done, Refused}
 use Rattle.language.specs.declared.ReportAnswer.{ReportAnswer}
 use Rattle.language.specs.declared.ReportAnswer.the-variants as report
-use Rattle.language.specs.Words.{countT, countN, grammarOf, too-low}
+use Rattle.language.specs.Words.{countT, countN, grammarOf}
 use Rattle.language.specs.Grammar.{Grammar}
 use Rattle.language.specs.Matrix.{matrixOf}
 use Rattle.language.specs.Loads.{Accepted, loadAnswer, loadedBytes, loadBytes, accepted-exactly}
@@ -25,14 +24,13 @@ use Rattle.language.specs.Trees.{Span, Reduction, forestOf}
 use Rattle.language.specs.Reports.{putInOrder}
 use Rattle.language.specs.ReportOrder.{post-order-stays}
 use Rattle.machine.specs.Moves.{Table, Stuck, noRelation, noRule, notAxiom, sideBySide}
-use Rattle.machine.specs.Laws.{EndMark, Laws}
 use Rattle.machine.specs.Chunks.{Chunk, stuck}
 use Rattle.machine.specs.States.{State, ran, moving, run, unreadFrom, start, outcome}
-use Rattle.machine.specs.TableOf.{tableOf, laws-of-words}
+use Rattle.machine.specs.TableOf.{tableOf, ownTable, own-end-mark, own-laws}
 use Rattle.machine.specs.Answers.{outcomeAnswer, outcomeOut}
 use Rattle.machine.specs.Runs.{Out, Ends}
 use Rattle.machine.specs.RunsEnd.{fine-empty, fine-unmarked, run-ends}
-use Rattle.machine.specs.Starts.{NoEnd, bottom}
+use Rattle.machine.specs.Starts.{bottom}
 use Rattle.machine.specs.Bounded.{mostMoves}
 use Rattle.machine.specs.ReadThrough.{alone, Rested, rests-over, rests-stuck, ends-read-through, run-reads-through}
 use Rattle.machine.specs.UncutRow.{axiom-of-run, made-in-order}
@@ -43,11 +41,12 @@ use Rattle.area.specs.Encoded.{chunks-at, low-moves-at, rest-at}
 use Rattle.area.specs.Shape.{grammarInShape}
 use Rattle.area.specs.ShapeExactly.{HoldsState}
 use Rattle.area.specs.WordsOfShape.{terminals-fit}
-use Rattle.area.specs.EndMarkOfShape.{grammar-in-shape, end-mark-in-shape, matrix-in-shape}
+use Rattle.area.specs.EndMarkOfShape.{grammar-in-shape, own-shape}
+use Rattle.area.specs.StartKept.{no-end}
 use Rattle.area.specs.InShape.{in-shape-holds, holds-in-shape}
 use Rattle.area.specs.Decode.{decode-encode}
 use Rattle.area.specs.Safe.{safe-run, safe-start}
-use Rattle.area.specs.Start.{Startable, wrong-token, startAnswer, startedArea, startArea, starts-exactly}
+use Rattle.area.specs.Start.{Startable, startAnswer, startedArea, startArea, starts-exactly}
 use Rattle.report.specs.OutcomeWords.{wordsOutcome, Reportable, outcome-words, reportable}
 use Rattle.reader.specs.ParseCall.{ranOutcome, parseOutcome, thenStart, parseBegun, parseAnswer, parseArea, parseOut}
 use Rattle.reader.specs.RunMoves.{Runnable, RanWords}
@@ -130,10 +129,6 @@ ended-so n l moves rest (rests-stuck {why = why} b) h = absurd (not-below why h)
 
 -- ---- a row of accepted words
 
-no-end : (tokens : List ℕ) → ((i : ℕ) → i < length tokens → getD tokens i 0 ≡ 0 → ⊥) → NoEnd tokens
-no-end [] h = tt
-no-end (a ∷ tokens) h = (ne-eqb a 0 (h 0 (omega arith)), no-end tokens (λ i l. h (suc i) (omega arith)))
-
 same-state : {i j : ℕ} {s s′ : State Span} → ran i s ≡ ran j s′ → s ≡ s′
 same-state e = cc
 
@@ -149,28 +144,16 @@ module _ (words : List ℕ) (accepted : Accepted words) where
   matrix = matrixOf g
 
   abbrev pub table : Table Span
-  table = tableOf words matrix
-
-  pub shape : grammarInShape words matrix ≡ true
-  shape = subst (λ b. grammarInShape words b ≡ true) (append-nil matrix) (matrix-in-shape words accepted [])
-
-  pub laws : Laws g table
-  laws = subst (λ b. Laws g (tableOf words b)) (append-nil matrix) (laws-of-words words accepted [])
-
-  pub ends : EndMark table
-  ends = end-mark-in-shape words matrix shape
+  table = ownTable words
 
   module _ (tokens : List ℕ) {room : ℕ} (can : Startable (record { words = words; matrix = matrix; tokens = tokens; cuts = []; room = room })) where
-    pub tokens-not-end : NoEnd tokens
-    tokens-not-end = no-end tokens (λ i l e. can .right-tokens i (wrong-token l (too-low (omega arith))))
-
     -- the reductions of a row read to its end are made in order
     in-order : {l : List (Reduction Span)} {o : Out Span} {c : Chunk Span} → Rested o c → Ends table bottom (unreadFrom 0 tokens) l o
         → statusWord (c .status) < 17 → putInOrder l ≡ l
     in-order rests-over e h =
-        let t = axiom-of-run laws ends (λ r vs. refl) tokens tokens-not-end e in
-        let m = made-in-order laws ends (λ r vs. refl) tokens tokens-not-end e t in
-        ap putInOrder m ∙ post-order-stays (λ r w s. laws .has-terminal s) 0 (forestOf (t .of-root .tree)) (t .of-root .grown) ∙ sym m
+        let t = axiom-of-run (own-laws accepted) (own-end-mark accepted) (λ r vs. refl) tokens (no-end can) e in
+        let m = made-in-order (own-laws accepted) (own-end-mark accepted) (λ r vs. refl) tokens (no-end can) e t in
+        ap putInOrder m ∙ post-order-stays (λ r w s. own-laws accepted .has-terminal s) 0 (forestOf (t .of-root .tree)) (t .of-root .grown) ∙ sym m
     in-order (rests-stuck {why = why} b) e h = absurd (not-below why h)
 
     abbrev pub budget : ℕ
@@ -187,20 +170,20 @@ module _ (words : List ℕ) (accepted : Accepted words) where
     rested-parsed : {l : List (Reduction Span)} {o : Out Span} {c : Chunk Span} {made moves : ℕ} (rest : List ℕ) → Rested o c
         → Ends table bottom (unreadFrom 0 tokens) l o → Runs made (alone c l moves) → Parsed words tokens rest (encode (length tokens) (alone c l moves) ++ rest)
     rested-parsed {l} {o} {c} {made} {moves} rest rested e r =
-        let kept = safe-run words matrix shape 0 budget (safe-start can) r in
+        let kept = safe-run words matrix (own-shape accepted) 0 budget (safe-start can) r in
         record {
-          finished = finished words matrix shape kept rest (ended-so (length tokens) l moves rest rested) (in-order rested e);
-          outcome-is = outcome-back words matrix shape kept rest ∙ outcome-run r;
-          long = omega (arith, whole words matrix shape kept rest);
+          finished = finished words matrix (own-shape accepted) kept rest (ended-so (length tokens) l moves rest rested) (in-order rested e);
+          outcome-is = outcome-back words matrix (own-shape accepted) kept rest ∙ outcome-run r;
+          long = omega (arith, whole words matrix (own-shape accepted) kept rest);
           rest-is = rest-at (length tokens) (alone c l moves) rest (within-slots kept) (few-reductions kept);
         }
 
     row-parsed : {made : ℕ} {s : State Span} (rest : List ℕ) → moving table 0 budget 0 (start tokens []) ≡ ran made s
         → Parsed words tokens rest (encode (length tokens) s ++ rest)
     row-parsed rest q =
-        let e = run-ends table ends bottom (unreadFrom 0 tokens) (fine-unmarked fine-empty) in
+        let e = run-ends table (own-end-mark accepted) bottom (unreadFrom 0 tokens) (fine-unmarked fine-empty) in
         let t = ends-read-through table (e .run) [] 0 in
-        let r = run-reads-through table ends tokens tokens-not-end (t .through) budget (omega arith) in
+        let r = run-reads-through table (own-end-mark accepted) tokens (no-end can) (t .through) budget (omega arith) in
         let same = same-state (sym q ∙ sym (run-is table budget tokens) ∙ r) in
         subst (λ s. Parsed words tokens rest (encode (length tokens) s ++ rest)) (sym same) (rested-parsed rest (t .rested) (e .run) r)
 
@@ -214,7 +197,7 @@ module _ {words bytes tokens area : List ℕ} (b : Begun words bytes tokens area
       state = start tokens [];
       rest = b .rest;
       area-is = b .area-is;
-      grammar = subst (λ m. grammarInShape words m ≡ true) (sym (b .matrix-is)) (shape words (b .accepted));
+      grammar = subst (λ m. grammarInShape words m ≡ true) (sym (b .matrix-is)) (own-shape (b .accepted));
       kept = safe-start (b .startable);
     };
     live = record { before = []; chunk = _; after = []; number-is = refl; chunks-are = refl };

@@ -21,7 +21,8 @@ use Rattle.area.specs.Lengths.{length-block, length-stack, length-rows, length-
 use Rattle.area.specs.Kept.{Kept}
 use Rattle.area.specs.Encoded.{chunks-at}
 use Rattle.reader.specs.MoveWords.{headOf, marksOf, putWords, pushWords, Pushable}
-use Rattle.reader.specs.AroundChunk.{finerParts, around-finer, tick-law, listed-words, read-words, head-word, marks-word, next-size, number-within, few-moves, slots-within, ends-within}
+use Rattle.reader.specs.AroundChunk.{finerParts, around-finer, tick-law, listed-words, read-words, head-word, marks-word}
+use Rattle.reader.specs.AroundChunk.{next-size, number-within, few-moves, slots-within, ends-within}
 
 -- a stack has no more marks than slots
 pub marks-few : (stack : List (Entry Span)) → marks stack ≤ stackSize stack
@@ -63,8 +64,8 @@ module _ (n : ℕ) (earlier : List (Option (Chunk Span))) (stack : List (Entry S
 
   was : encode n (state reader moves) ++ rest ≡ flat old
   was =
-      around-finer n earlier (some reader) later reductions moves rest (rowOf (total earlier + stackSize stack) (marks stack)) k (stackWords stack) (block 0 x) (unreadWords unread) tail
-      refl refl refl (simp append-nil)
+      around-finer n earlier (some reader) later reductions moves rest (rowOf (total earlier + stackSize stack) (marks stack)) k
+      (stackWords stack) (block 0 x) (unreadWords unread) tail refl refl refl (simp append-nil)
 
   will : encode n (state pushed (moves + 1)) ++ rest ≡ flat (parts (moves + 1) (rowOf (total earlier + (stackSize stack + size x)) (marks stack + markWord e)) (markWord e))
   will =

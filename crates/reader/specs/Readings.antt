@@ -4,14 +4,15 @@
 -- if there is one"; "Takes, no mark on the stack".
 -- Rests on ReadWords, on machine's Allowed and on area's Kept and Tiling.
 --
--- Main statements: told-ranged, told-upper, handle-below, no-marks, some-marks.
+-- Main statements: told-ranged, told-upper, handle-below, no-marks.
 use mathlib.Core.Path.{_≡_, refl}
 use mathlib.Core.List.{List, [], _∷_, _++_}
 use Prim.Native.Nat.{ℕ, _<_}
 use native.Mathlib.Omega.{arith}
 use Rattle.language.specs.Trees.{Span}
 use Rattle.machine.specs.Entries.{terminalAt, nonterminalAt, Entry, terminalOn, nonterminalOn, stackSymbols}
-use Rattle.machine.specs.Allowed.{TopNonterminal, top-nonterminal, NoMark, empty-stack, over-unmarked, over-nonterminal, HandleAbove, from-nonterminal, from-mark, up-to-unmarked, up-to-nonterminal}
+use Rattle.machine.specs.Allowed.{TopNonterminal, top-nonterminal, NoMark, empty-stack, over-unmarked, over-nonterminal, HandleAbove}
+use Rattle.machine.specs.Allowed.{from-nonterminal, from-mark, up-to-unmarked, up-to-nonterminal}
 use Rattle.area.specs.Layout.{marks}
 use Rattle.area.specs.Kept.{AllInRange, in-range}
 use Rattle.area.specs.Tiling.{ranged-split}
@@ -50,9 +51,3 @@ pub no-marks : {stack : List (Entry Span)} → NoMark stack → marks stack ≡ 
 no-marks empty-stack = refl
 no-marks (over-unmarked n) = omega (arith, no-marks n)
 no-marks (over-nonterminal n) = omega (arith, no-marks n)
-
-pub some-marks : {stack handle below : List (Entry Span)} → HandleAbove stack handle below → 0 < marks stack
-some-marks from-nonterminal = omega arith
-some-marks (from-mark h) = omega arith
-some-marks (up-to-unmarked h) = omega (arith, some-marks h)
-some-marks (up-to-nonterminal h) = omega (arith, some-marks h)

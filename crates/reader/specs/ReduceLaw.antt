@@ -29,7 +29,8 @@ use Rattle.area.specs.Encoded.{tokens-at, chunks-at, count-at}
 use Rattle.reader.specs.MoveWords.{headOf, slotAt, Stands, clearedWords, laidWords, notedWords, replacedWords, reduceWords, Reducible}
 use Rattle.reader.specs.BlockWords.{laid}
 use Rattle.reader.specs.HandleSlots.{stack-words, stack-slots, stack-marks, handle-splits, handle-marks, handle-covers, upper-stands, reductions-fit}
-use Rattle.reader.specs.AroundChunk.{from-word, made-within, slots-count, stack-stands, finerParts, around-finer, tick-law, listed-words, made-words, head-word, marks-word, few-moves, ends-within, number-within}
+use Rattle.reader.specs.AroundChunk.{from-word, made-within, slots-count, stack-stands, finerParts, around-finer, tick-law, listed-words}
+use Rattle.reader.specs.AroundChunk.{made-words, head-word, marks-word, few-moves, ends-within, number-within}
 
 -- ---- parts of the words
 
@@ -107,7 +108,8 @@ module _ (n : ℕ) (earlier : List (Option (Chunk Span))) (handle below : List (
   was =
       let e : 3 * (n - length reductions) ≡ suc (suc (suc (3 * (n - (length reductions + 1))))) = omega arith in
       let m : marks (handle ++ below) ≡ marks below + 1 = omega (arith, stack-marks handle below) in
-      around-finer n earlier (some reader) later reductions moves rest (rowOf (marks below + 1)) k (stackWords below) (stackWords handle) (unreadWords unread) (tail (0 ∷ 0 ∷ 0 ∷ []))
+      around-finer n earlier (some reader) later reductions moves rest (rowOf (marks below + 1)) k
+      (stackWords below) (stackWords handle) (unreadWords unread) (tail (0 ∷ 0 ∷ 0 ∷ []))
       (rw (stack-slots handle below, m)) (rw (stack-slots handle below))
       (rw (stack-words handle below) (append-assoc (stackWords below) (stackWords handle) (unreadWords unread))) (rw e (simp (append-assoc, append-nil)))
 
@@ -202,11 +204,13 @@ module _ {t N n : ℕ} {s : State Span} (k : Kept t N n s) (rest : List ℕ) {c 
       ap (λ (words : List ℕ). reduceWords words c (total (l .before) + stackSize below) (256 + left) rule)
       (listed-words n s rest l (λ i. record { stack = handle-splits h i; unread = l .chunk .unread; status = l .chunk .status }))
       ∙ law n (l .before) handle below (l .chunk .unread) (l .chunk .status) (l .after) (s .reductions) (s .moves) rest left v rule
-      (reductions-fit k l h) (omega (arith, within-slots k, slots-count n s rest l)) (handle-marks h) (omega (arith, q .covers)) c (l .number-is) (q .first) (omega (arith, q .after))
+      (reductions-fit k l h) (omega (arith, within-slots k, slots-count n s rest l)) (handle-marks h)
+      (omega (arith, q .covers)) c (l .number-is) (q .first) (omega (arith, q .after))
       ∙ sym (made-words n s rest l (record { rule = rule; value = v } ∷ []) (record { stack = nonterminalOn left v ∷ below; unread = l .chunk .unread; status = l .chunk .status }))
 
   -- the handle's words, up to `head`
-  pub handle-stands : Stands (encode n s ++ rest) (slotAt (encode n s ++ rest) (total (l .before) + stackSize below)) (slotAt (encode n s ++ rest) (headOf (encode n s ++ rest) c)) handle
+  pub handle-stands : Stands (encode n s ++ rest) (slotAt (encode n s ++ rest) (total (l .before) + stackSize below))
+      (slotAt (encode n s ++ rest) (headOf (encode n s ++ rest) c)) handle
   handle-stands =
       upper-stands handle below (slotAt (encode n s ++ rest) (total (l .before) + stackSize below)) (omega (arith, from-word n s rest l))
       (rw (handle-splits h) at (stack-stands n s rest l))

@@ -94,7 +94,9 @@ module _ {words bytes old : List ℕ} {c : ℕ} {m : Runnable words bytes old c}
         live = live-stepped holds-now s;
         are = s .are;
         within = omega arith;
-        goes-on = u .goes-on ∙ ap (λ (b : ℕ). moving (tableOf words bytes) c b made (u .now)) e ∙ moving-step (tableOf words bytes) c (u .now) (s .steps) (budget - (made + 1)) made;
+        goes-on =
+            u .goes-on ∙ ap (λ (b : ℕ). moving (tableOf words bytes) c b made (u .now)) e
+            ∙ moving-step (tableOf words bytes) c (u .now) (s .steps) (budget - (made + 1)) made;
       }
 
   -- it rests

@@ -1,20 +1,14 @@
 -- The two answers of `entry_tokens`: the part of an entry that stands, and the part of no tokens at place 0 otherwise.
 -- Main statements: stands, stands-not.
-use mathlib.Core.Path.{_≡_, refl, sym, ap, _∙_}
+use mathlib.Core.Path.{_≡_, refl}
 use mathlib.Core.Bool.{true, false}
 use mathlib.Core.List.{List, []}
 use Prim.Native.Nat.{ℕ, _+_, _*_, _-_, _≤_}
 use native.Mathlib.Omega.{arith}
 use lib.ListN.{length, getD, take, drop}
-use lib.Seq.{slice, take-add, drop-at, length-take-le}
+use Rattle.laws.specs.Parts.{part-slice}
 use Rattle.laws.specs.Tests.{and-both, both-and, false-unless, leb-true, le-leb}
 use Rattle.report.specs.ReportCall.{entryStands, entryStart, entryTokens, wordAddress}
-
--- the words from f up to t, as code takes them
-part-is : (f t : ℕ) (l : List ℕ) → f ≤ t → t ≤ length l → take (t - f) (drop f l) ≡ slice f t l
-part-is f t l h k =
-    let e : t ≡ f + (t - f) = omega arith in
-    sym (ap (λ n. drop f (take n l)) e ∙ ap (drop f) (take-add f (t - f) l) ∙ drop-at (take f l) (take (t - f) (drop f l)) f (length-take-le f l (omega arith)))
 
 module _ (report : List ℕ) (e : ℕ) (tokens : List ℕ) (run : ℕ × ℕ) where
   abbrev first : ℕ
@@ -31,7 +25,7 @@ module _ (report : List ℕ) (e : ℕ) (tokens : List ℕ) (run : ℕ × ℕ) wh
   stands a b d =
       let h : entryStands report e (length tokens) ≡ true = both-and _ _ (le-leb _ _ a) (both-and _ _ (le-leb _ _ b) (le-leb _ _ d)) in
       let shift : first * 2 + run .1 ≡ run .1 + 2 * first = omega arith in
-      rw (h, entryTokens, entryStart) (part-is first after tokens b d, λ i. (run .0, shift i))
+      rw (h, entryTokens, entryStart) (part-slice first after tokens b d, λ i. (run .0, shift i))
 
   -- any other: no tokens, at place 0
   pub stands-not : (3 * e + 3 ≤ length report → first ≤ after → after ≤ length tokens → ⊥)

@@ -26,8 +26,9 @@ use Rattle.machine.specs.Entries.{Unread, symbol, valueOf, Entry, stackSymbols}
 use Rattle.machine.specs.Moves.{noRelation, noRule, notAxiom, sideBySide}
 use Rattle.machine.specs.Chunks.{Status, running, stuck, Chunk}
 use Rattle.machine.specs.States.{State, Outcome, refusedRow, reported, live, outcomeOf, outcomeOfLive, outcome}
+use Rattle.machine.specs.Starts.{symbolsAlong}
 use Rattle.area.specs.Layout.{need, size, stackSize, unreadSize, chunkSize, statusWord, row, rows, encode, madeAtWord, spanAt, readMade, decode}
-use Rattle.area.specs.Kept.{Lies, first-end, last-end, within, Tiles, tile, symbolsOf, FirstLive, first-live, not-stuck, stuck-fine, AllStuckFine, and-chunk}
+use Rattle.area.specs.Kept.{Lies, first-end, last-end, within, Tiles, tile, FirstLive, first-live, not-stuck, stuck-fine, AllStuckFine, and-chunk}
 use Rattle.area.specs.Lengths.{stack-size, tiles-end, encode-length, few-reductions}
 use Rattle.area.specs.Tiling.{tiles-split}
 use Rattle.area.specs.Walks.{status-word}
@@ -171,7 +172,7 @@ module _ {t N : ℕ} (area : List ℕ) where
       let d = table-of (record { chunks = chunks; reductions = reductions; moves = moves }) h in
       let e : getD area 1 0 - 1 ≡ length others = omega (arith, h .chunks-are) in
       let next : (b : Unread Span) (rest : List (Unread Span)) → c .unread ≡ b ∷ rest → valueOf b .first ≡ stackSize (c .stack) - 1 =
-      λ b rest q. next-first (c .stack) b (rest ++ symbolsOf (live others)) (rw q at (k .tiles)) in
+      λ b rest q. next-first (c .stack) b (rest ++ symbolsAlong (live others)) (rw q at (k .tiles)) in
       rw (
         live-outcome (stackSize (c .stack)) reductions moves c (live others),
         e,

@@ -10,7 +10,7 @@ use mathlib.Core.Bool.{Bool, true, false, _&&_, _||_, or-false, or-true}
 use mathlib.Core.List.{List, [], _∷_}
 use Prim.Native.Nat.{ℕ, zero, suc, _+_, _*_, _%_, _^_, _≤_, _<_}
 use native.Mathlib.Omega.{arith}
-use native.Mathlib.Nat.{pow-suc, suc-mul, lt-of-lt-of-le, one-mul, mod-eq-of-lt}
+use native.Mathlib.Nat.{suc-mul, lt-of-lt-of-le, one-mul, mod-eq-of-lt}
 use native.Mathlib.Numerals.{add-one}
 use native.Mathlib.Decide.{decLt, ℕ-discrete}
 use lib.Dec.{eqb}
@@ -20,7 +20,7 @@ use lib.Bits.{bitOr}
 use lib.Count.{ones, ones-le}
 use lib.Pow.{pow-mono, pow-lt}
 use Rattle.laws.specs.Tests.{eq-eqb, ne-eqb, lt-ltb, le-ltb, anyBelow}
-use Rattle.laws.specs.Masks.{bit, bit-zero, maskOf, maskOf-lt, bit-maskOf, mask-ext, bit-or, union-grows}
+use Rattle.laws.specs.Masks.{bit, bit-zero, maskOf, maskOf-lt, bit-maskOf, mask-ext, bit-or, below-pow, union-grows}
 
 -- row i gains the members of m
 abbrev pub gains : List ℕ → ℕ → ℕ → List ℕ
@@ -74,10 +74,6 @@ gains-grows rows i m h = go (union-grows (getD rows i 0) m)
 pub total-most : (k : ℕ) (rows : List ℕ) → ((x : ℕ) → getD rows x 0 < 2 ^ k) → total rows ≤ length rows * k
 total-most k [] h = omega arith
 total-most k (m ∷ rows) h = omega (arith, ones-le k m (h 0), total-most k rows (λ x. h (suc x)), suc-mul (length rows) k)
-
-below-pow : (n : ℕ) → n < 2 ^ n
-below-pow zero = omega arith
-below-pow (suc n) = omega (arith, pow-suc 2 n, below-pow n)
 
 -- a mask with no member at k or above is below 2 ^ k
 pub mask-low : (k m : ℕ) → ((t : ℕ) → k ≤ t → bit m t ≡ false) → m < 2 ^ k

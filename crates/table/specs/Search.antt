@@ -2,16 +2,16 @@
 -- Document 01, "Refusal numbers": "first such word", "first such entry", "first such rule", "least rule for which this holds".
 -- Rests on laws' Least and Tests.
 --
--- Main definitions: foundOf, Clear.
+-- Main definition: foundOf; of laws: Clear.
 -- Main statements: found-at, found-nowhere (what the search returns is what the definition finds), at-is, nowhere-is (and back),
 -- fails-below, clear-below (a search that answers yes or no).
 use mathlib.Core.Path.{_≡_, refl, sym, ap}
 use mathlib.Core.Bool.{Bool, true, false}
 use mathlib.Core.Option.{Option, none, some}
-use Prim.Native.Nat.{ℕ, _+_, _≤_, _<_}
+use Prim.Native.Nat.{ℕ, _≤_, _<_}
 use native.Mathlib.Omega.{arith}
-use borrow.Author.Count.{below-more}
-use Rattle.laws.specs.Least.{firstBelow, firstBelow-some, firstBelow-none}
+use Rattle.laws.specs.Least.{firstBelow, first-at, first-nowhere}
+pub use Rattle.laws.specs.Least.{Clear, clear-none, clear-more}
 use Rattle.laws.specs.Tests.{not-both, false-unless, anyBelow, anyBelow-iff}
 use Rattle.table.specs.declared.words.Found.{Found}
 use Rattle.table.specs.declared.words.Found.the-variants.{At, Nowhere}
@@ -29,23 +29,12 @@ pub nowhere-is : (o : Option ℕ) → Nowhere ≡ foundOf o → o ≡ none
 nowhere-is none e = refl
 nowhere-is (some u) e = let z : _≡_ {A = ℕ} 0 1 = cc in absurd (omega arith)
 
--- the check fails nowhere below i
-abbrev pub Clear : (ℕ → Bool) → ℕ → Type 0
-Clear fails i = (k : ℕ) → k < i → fails k ≡ false
-
 module _ (fails : ℕ → Bool) where
-  pub clear-none : Clear fails 0
-  clear-none k h = absurd (omega arith)
-
-  pub clear-more : (i : ℕ) → Clear fails i → fails i ≡ false → Clear fails (i + 1)
-  clear-more = below-more (λ k. fails k ≡ false)
-
   pub found-at : (n i : ℕ) → i < n → Clear fails i → fails i ≡ true → At i ≡ foundOf (firstBelow fails n)
-  found-at n i h clear e =
-      ap foundOf (sym (firstBelow-some fails n i .1 (record { holds = (h, e); least = λ u l p. not-both (fails u) (p .1) (clear u l) })))
+  found-at n i h clear e = ap foundOf (sym (first-at fails n i h clear e))
 
   pub found-nowhere : (n i : ℕ) → n ≤ i → Clear fails i → Nowhere ≡ foundOf (firstBelow fails n)
-  found-nowhere n i h clear = ap foundOf (sym (firstBelow-none fails n .1 (λ k l. clear k (omega arith))))
+  found-nowhere n i h clear = ap foundOf (sym (first-nowhere fails n i h clear))
 
   -- a search that only asks whether the check fails
   pub fails-below : (n i : ℕ) → i < n → fails i ≡ true → true ≡ anyBelow fails n

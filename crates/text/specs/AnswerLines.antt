@@ -1,7 +1,7 @@
 -- The lines that `rows` writes, as bytes, and a line put into a lent run of bytes.
 -- Document 01, "Sample rows": "it writes this, first line tokens, chunks, moves, then the report"; "A refusal is one line, `refused 18 2`";
 -- "gives `text L`".
--- Rests on Readings, Decimals, Ascii.
+-- Rests on Readings, Decimals, Ascii, and on laws' Parts.
 --
 -- Main definitions: spaced, answerLine, parseLine, entryLine, refusedLine, textLine; written, endAfter.
 -- Main statements: end-within (the place after a line is within the run); written-fits, written-not, end-fits, end-not.
@@ -9,12 +9,12 @@ use mathlib.Core.Path.{_≡_, refl, sym, ap, _∙_}
 use mathlib.Core.Bool.{Bool, true, false}
 use mathlib.Core.List.{List, [], _∷_, _++_, append-assoc}
 use Prim.Native.Nat.{ℕ, suc, _+_, _/_, _%_, _≤_, _<_}
-use native.Mathlib.Nat.{add-zero}
 use native.Mathlib.Numerals.{add-one}
 use native.Mathlib.Omega.{arith}
 use lib.Dec.{leb}
 use lib.ListN.{length, getD, take, drop, set, length-append, drop-of-length-le}
 use lib.Seq.{sets, sets-eq, drop-cons}
+use Rattle.laws.specs.Parts.{sets-append}
 use Rattle.laws.specs.Picks.{pick}
 use Rattle.laws.specs.Tests.{leb-true, le-leb, lt-leb}
 use Rattle.text.specs.Ascii.{ascii}
@@ -62,13 +62,6 @@ written out at bytes = pick (fits out at bytes) (take at out ++ (bytes ++ drop (
 -- the place after them; where they have no room, the place itself
 unfoldable pub endAfter : List ℕ → ℕ → List ℕ → ℕ
 endAfter out at bytes = pick (fits out at bytes) (at + length bytes) at
-
--- bytes put one after the other are put at once
-pub sets-append : (l : List ℕ) (i : ℕ) (a b : List ℕ) → sets l i (a ++ b) ≡ sets (sets l i a) (i + length a) b
-sets-append l i [] b = rw (add-zero i)
-sets-append l i (x ∷ a) b =
-    let e : suc i + length a ≡ i + suc (length a) = omega arith in
-    sets-append (set l i x) (suc i) a b ∙ ap (λ (k : ℕ). sets (sets (set l i x) (suc i) a) k b) e
 
 -- a number's digits before the last, and the last
 pub put-last : (l : List ℕ) (i v : ℕ) → 10 ≤ v → set (sets l i (decimal (v / 10))) (i + length (decimal (v / 10))) (digitByte (v % 10)) ≡ sets l i (decimal v)

@@ -5,13 +5,13 @@
 -- Main definitions: InLimits, SameLengths, AnswerLimits.
 -- Main statements: limits-start, limits-fed, lengths-fed (a buffer keeps its length), limits-answer, limits-finish.
 use mathlib.Core.Path.{_≡_, refl, subst, _∙_}
-use mathlib.Core.Bool.{Bool, true, false}
+use mathlib.Core.Bool.{false}
 use mathlib.Core.List.{List, [], _∷_}
 use Prim.Native.Nat.{ℕ, _+_, _-_, _*_, _≤_}
 use native.Mathlib.Omega.{arith}
 use lib.Dec.{leb, eqb}
 use lib.ListN.{length, length-set}
-use Rattle.laws.specs.Picks.{pick}
+use Rattle.laws.specs.Picks.{pick-with}
 use Rattle.laws.specs.Tests.{leb-false}
 use Rattle.text.specs.declared.reading.Line.{Line}
 use Rattle.text.specs.declared.reading.Line.the-variants.{Words, Tokens, Cuts}
@@ -21,7 +21,8 @@ use Rattle.text.specs.declared.reading.State.{State}
 use Rattle.text.specs.declared.reading.TextAnswer.{TextAnswer}
 use Rattle.text.specs.declared.reading.TextAnswer.the-variants.{More, BadLine, Lines}
 use Rattle.text.specs.Readings.{lineFeed, space, isDigit, mostWords, mostTokens, mostCuts}
-use Rattle.text.specs.Feeding.{Held, start, within, inPhase, started, nextLine, opened, longer, full, keptIn, kept, followed, ended, fedIn, fed, fedAll, fed-in, answerIn, answerOf, finishIn, finishOf}
+use Rattle.text.specs.Feeding.{Held, start, within, inPhase, started, nextLine, opened, longer, full, keptIn, kept, followed, ended}
+use Rattle.text.specs.Feeding.{fedIn, fed, fedAll, fed-in, answerIn, answerOf, finishIn, finishOf}
 
 pub record InLimits (s : State) : Type 0 where
   pub words-in : s .words ≤ mostWords
@@ -30,11 +31,6 @@ pub record InLimits (s : State) : Type 0 where
 
 pub limits-start : InLimits start
 limits-start = record { words-in = omega arith; tokens-in = omega arith; cuts-in = omega arith }
-
--- by a test, of which each outcome may be used
-pick-with : {A : Type 0} (P : A → Type 0) (b : Bool) {x y : A} → (b ≡ true → P x) → (b ≡ false → P y) → P (pick b x y)
-pick-with P true p q = p refl
-pick-with P false p q = q refl
 
 limits-phase : (s : State) (p : Phase) → InLimits s → InLimits (inPhase s p)
 limits-phase s p i = record { words-in = i .words-in; tokens-in = i .tokens-in; cuts-in = i .cuts-in }
@@ -87,7 +83,8 @@ module _ (h : Held) (byte : ℕ) (i : InLimits (h .state)) where
 pub limits-fed : (piece : List ℕ) (h : Held) → InLimits (h .state) → InLimits (fedAll h piece .state)
 unfolding fedAll
 limits-fed [] h i = i
-limits-fed (byte ∷ piece) h i = limits-fed piece (fed h byte) (subst (λ (k : Held). InLimits (k .state)) (fed-in h byte (h .state .phase) refl) (limits-in h byte i (h .state .phase)))
+limits-fed (byte ∷ piece) h i =
+    limits-fed piece (fed h byte) (subst (λ (k : Held). InLimits (k .state)) (fed-in h byte (h .state .phase) refl) (limits-in h byte i (h .state .phase)))
 
 -- and the buffers' lengths
 pub record SameLengths (h k : Held) : Type 0 where

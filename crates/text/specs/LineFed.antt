@@ -20,7 +20,8 @@ use Rattle.text.specs.declared.reading.Phase.{Phase}
 use Rattle.text.specs.declared.reading.Phase.the-variants.{Fresh, Number, Space, Bad, Done}
 use Rattle.text.specs.declared.reading.State.{State}
 use Rattle.text.specs.Readings.{lineFeed, space, isDigit, both, atMost}
-use Rattle.text.specs.Feeding.{Held, within, inPhase, started, lineEnded, opened, longer, counted, limit, full, kept, followed, ended, fedIn, fed, fedAll, ended-full, ended-kept, fed-fresh, fed-space, fed-longer, fed-ended, fed-in, bad-stays}
+use Rattle.text.specs.Feeding.{Held, within, inPhase, started, lineEnded, opened, longer, counted, limit, full, kept, followed, ended, fedIn, fed, fedAll}
+use Rattle.text.specs.Feeding.{ended-full, ended-kept, fed-fresh, fed-space, fed-longer, fed-ended, fed-in, bad-stays}
 use Rattle.text.specs.LineRead.{Kind, digit, gap, other, kind, numbersAfter}
 
 -- no byte is a line feed

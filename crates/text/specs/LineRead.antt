@@ -4,7 +4,7 @@
 --
 -- Main definitions: Kind, numbersAfter. Main statements: kind, line-is (a line's numbers are those that its bytes make one by one).
 use mathlib.Core.Path.{_≡_, refl, sym, ap, _∙_}
-use mathlib.Core.Bool.{Bool, true, false, _&&_}
+use mathlib.Core.Bool.{Bool, true, false, and-false}
 use mathlib.Core.List.{List, [], _∷_}
 use mathlib.Core.Option.{Option, none, some}
 use Prim.Native.Nat.{ℕ, _+_, _-_, _*_, _≤_, _<_}
@@ -52,10 +52,6 @@ value-grows : (value : ℕ) (digits : List ℕ) → value ≤ valueFrom value di
 value-grows value [] = omega arith
 value-grows value (d ∷ digits) = omega (arith, value-grows (value * 10 + (d - 48)) digits)
 
-and-false : (b : Bool) → (b && false) ≡ false
-and-false true = refl
-and-false false = refl
-
 -- one more digit
 number-longer : (value byte : ℕ) (bytes : List ℕ) → isDigit byte ≡ true
     → numberFrom value (byte ∷ bytes) ≡ pick (leb (value * 10 + (byte - 48)) 65535) (numberFrom (value * 10 + (byte - 48)) bytes) none
@@ -87,7 +83,8 @@ pick-same false a = refl
 on-digit : (value byte : ℕ) (parts : List (List ℕ)) → isDigit byte ≡ true
     → numbersOn value (divided false byte parts) ≡ pick (leb (value * 10 + (byte - 48)) 65535) (numbersOn (value * 10 + (byte - 48)) parts) none
 on-digit value byte [] d = sym (pick-same (leb (value * 10 + (byte - 48)) 65535) none)
-on-digit value byte (part ∷ parts) d = rw (number-longer value byte part d, both-none (leb (value * 10 + (byte - 48)) 65535) (numberFrom (value * 10 + (byte - 48)) part) (numbersOf parts))
+on-digit value byte (part ∷ parts) d =
+    rw (number-longer value byte part d, both-none (leb (value * 10 + (byte - 48)) 65535) (numberFrom (value * 10 + (byte - 48)) part) (numbersOf parts))
 
 -- some other byte there
 on-other : (value byte : ℕ) (parts : List (List ℕ)) → isDigit byte ≡ false → numbersOn value (divided false byte parts) ≡ none

@@ -14,7 +14,8 @@ use lib.Dec.{leb, eqb}
 use lib.ListN.{length, getElem?}
 use Rattle.laws.specs.Picks.{pick}
 use Rattle.laws.specs.Tests.{and-both, leb-true}
-use Rattle.text.specs.Readings.{lineFeed, isDigit, divided, linesOf, partsOf, numbersOf, atMost, presentLine, goodLine, mostWords, mostTokens, mostCuts, lines, badLine, readLines, readText}
+use Rattle.text.specs.Readings.{lineFeed, isDigit, divided, linesOf, partsOf, numbersOf, atMost, presentLine, goodLine, mostWords}
+use Rattle.text.specs.Readings.{mostTokens, mostCuts, lines, badLine, readLines, readText}
 
 pub digit-range : (byte : ℕ) → isDigit byte ≡ true → (48 ≤ byte) × (byte ≤ 57)
 digit-range byte e =

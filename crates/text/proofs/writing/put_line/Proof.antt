@@ -6,7 +6,8 @@ use native.Mathlib.Omega.{arith}
 use borrow.Author.Needs.{needs}
 use lib.ListN.{length, length-append}
 use lib.Seq.{sets}
-use Rattle.text.specs.AnswerLines.{spaced, answerLine, sets-append, written-fits, written-not, end-fits, end-not}
+use Rattle.laws.specs.Parts.{sets-append}
+use Rattle.text.specs.AnswerLines.{spaced, answerLine, written-fits, written-not, end-fits, end-not}
 use Rattle.text.proofs.writing.put_line.Statement.{statement}
 use Rattle.text.proofs.writing.put_line.Tie as tie
 

@@ -6,7 +6,7 @@ use native.Mathlib.Omega.{arith}
 use borrow.Author.Needs.{needs}
 use lib.ListN.{set}
 use lib.Seq.{sets}
-use Rattle.text.specs.AnswerLines.{sets-append}
+use Rattle.laws.specs.Parts.{sets-append}
 use Rattle.text.specs.Decimals.{decimal}
 use Rattle.text.proofs.writing.put_number.Statement.{statement}
 use Rattle.text.proofs.writing.put_number.Tie as tie
