@@ -2,16 +2,15 @@
 -- Document 01, "Refusal numbers": "Loading checks 1 to 6 in that order, each over the whole grammar".
 -- Rests on language's Stages and Checks.
 --
--- Main definition: Says.
--- Main statements: refused-head, refused-contents, refused-symbol, done-symbols; refused-symbols, refused-form, refused-twin,
--- done-words; laid-done.
+-- Main statements: refused, passed; head-refuses, contents-refuse, symbols-decide; symbols-refuse, forms-refuse, twins-decide;
+-- head-passed, contents-passed, laid-done.
 use mathlib.Core.Path.{_≡_, refl, sym, ap, _∙_}
 use mathlib.Core.List.{List, [], _∷_}
 use mathlib.Core.Option.{Option, none, some}
 use Prim.Native.Nat.{ℕ}
 use native.Mathlib.Omega.{arith}
 use Rattle.language.specs.declared.Refusal.{Refusal}
-use Rattle.language.specs.declared.Refusal.the-variants.{Head, Contents, Symbol, Form, Twin}
+use Rattle.language.specs.declared.Answer.{Answer}
 use Rattle.language.specs.declared.Answer.the-variants.{Done, Refused}
 use Rattle.language.specs.Stages.{Stage, checked, thenChecked, checked-append}
 use Rattle.language.specs.CheckHead.{headStage}
@@ -20,10 +19,7 @@ use Rattle.language.specs.CheckSymbols.{symbolStage}
 use Rattle.language.specs.CheckForm.{formStage}
 use Rattle.language.specs.CheckTwins.{twinStage}
 use Rattle.language.specs.Checks.{checkSymbols, checkWords}
-use Rattle.table.specs.declared.words.Found.{Found}
-use Rattle.table.specs.declared.words.Found.the-variants.{At, Nowhere}
-use Rattle.table.specs.Search.{foundOf, at-is, nowhere-is}
-use Rattle.table.specs.Laid.{Laid, headed, laid}
+use Rattle.table.specs.Laid.{Headed, Laid, headed, laid}
 
 module _ {Input : Type 0} (input : Input) where
   pub refused : (stage : Stage Input) (later : List (Stage Input)) (v : ℕ) → stage .failsAt input ≡ some v
@@ -49,48 +45,43 @@ abbrev rightStages : List (Stage (List ℕ))
 rightStages = formStage ∷ twinStage ∷ []
 
 module _ (words : List ℕ) where
-  -- what the code's search for a check says is what the check finds
-  abbrev pub Says : Stage (List ℕ) → Found → Type 0
-  Says stage found = found ≡ foundOf (stage .failsAt words)
-
-  fails-at : (stage : Stage (List ℕ)) (later : List (Stage (List ℕ))) (v : ℕ) → Says stage (At v) → checked (stage ∷ later) words ≡ Refused (stage .refusal v)
-  fails-at stage later v f = refused words stage later v (at-is (stage .failsAt words) v f)
-
-  fails-not : (stage : Stage (List ℕ)) (later : List (Stage (List ℕ))) → Says stage Nowhere → checked (stage ∷ later) words ≡ checked later words
-  fails-not stage later f = passed words stage later (nowhere-is (stage .failsAt words) f)
+  -- a first check that refuses decides, and one that passes leaves it to the later ones
+  decides : (stage : Stage (List ℕ)) (later : List (Stage (List ℕ))) (answer : Answer) → answer ≡ checked (stage ∷ []) words
+      → checked (stage ∷ later) words ≡ thenChecked answer later words
+  decides stage later answer e = checked-append (stage ∷ []) later words ∙ ap (λ a. thenChecked a later words) (sym e)
 
   -- 1 to 3
   symbols-are : checkSymbols words ≡ checked symbolStages words
   unfolding checkSymbols
   symbols-are = refl
 
-  pub refused-head : (v : ℕ) → Says headStage (At v) → Refused (Head v) ≡ checkSymbols words
-  refused-head v f = sym (symbols-are ∙ fails-at headStage (contentsStage ∷ symbolStage ∷ []) v f)
+  pub head-refuses : (refusal : Refusal) → Refused refusal ≡ checked (headStage ∷ []) words → Refused refusal ≡ checkSymbols words
+  head-refuses refusal e = sym (symbols-are ∙ decides headStage (contentsStage ∷ symbolStage ∷ []) (Refused refusal) e)
 
-  module _ (h : Says headStage Nowhere) where
+  module _ (h : Done ≡ checked (headStage ∷ []) words) where
+    pub head-passed : Headed words
+    head-passed = headed words (passed-first words headStage [] (sym h) .0)
+
     after-head : checkSymbols words ≡ checked (contentsStage ∷ symbolStage ∷ []) words
-    after-head = symbols-are ∙ fails-not headStage (contentsStage ∷ symbolStage ∷ []) h
+    after-head = symbols-are ∙ decides headStage (contentsStage ∷ symbolStage ∷ []) Done h
 
-    pub refused-contents : (v : ℕ) → Says contentsStage (At v) → Refused (Contents v) ≡ checkSymbols words
-    refused-contents v f = sym (after-head ∙ fails-at contentsStage (symbolStage ∷ []) v f)
+    pub contents-refuse : (refusal : Refusal) → Refused refusal ≡ checked (contentsStage ∷ []) words → Refused refusal ≡ checkSymbols words
+    contents-refuse refusal e = sym (after-head ∙ decides contentsStage (symbolStage ∷ []) (Refused refusal) e)
 
-    module _ (c : Says contentsStage Nowhere) where
-      after-contents : checkSymbols words ≡ checked (symbolStage ∷ []) words
-      after-contents = after-head ∙ fails-not contentsStage (symbolStage ∷ []) c
+    module _ (c : Done ≡ checked (contentsStage ∷ []) words) where
+      pub contents-passed : Laid words
+      contents-passed = laid words head-passed (passed-first words contentsStage [] (sym c) .0)
 
-      pub refused-symbol : (v : ℕ) → Says symbolStage (At v) → Refused (Symbol v) ≡ checkSymbols words
-      refused-symbol v f = sym (after-contents ∙ fails-at symbolStage [] v f)
-
-      pub done-symbols : Says symbolStage Nowhere → Done ≡ checkSymbols words
-      done-symbols f = sym (after-contents ∙ fails-not symbolStage [] f)
+      pub symbols-decide : checked (symbolStage ∷ []) words ≡ checkSymbols words
+      symbols-decide = sym (after-head ∙ decides contentsStage (symbolStage ∷ []) Done c)
 
   -- 1 to 5 is 1 to 3, and then 4 and 5
   words-are : checkWords words ≡ thenChecked (checkSymbols words) rightStages words
   unfolding checkSymbols checkWords
   words-are = checked-append symbolStages rightStages words
 
-  pub refused-symbols : (refusal : Refusal) → Refused refusal ≡ checkSymbols words → Refused refusal ≡ checkWords words
-  refused-symbols refusal e = sym (words-are ∙ ap (λ answer. thenChecked answer rightStages words) (sym e))
+  pub symbols-refuse : (refusal : Refusal) → Refused refusal ≡ checkSymbols words → Refused refusal ≡ checkWords words
+  symbols-refuse refusal e = sym (words-are ∙ ap (λ answer. thenChecked answer rightStages words) (sym e))
 
   module _ (e : Done ≡ checkSymbols words) where
     -- the words that pass 1 to 3 are laid
@@ -102,15 +93,8 @@ module _ (words : List ℕ) where
     after-symbols : checkWords words ≡ checked rightStages words
     after-symbols = words-are ∙ ap (λ answer. thenChecked answer rightStages words) (sym e)
 
-    pub refused-form : (v : ℕ) → Says formStage (At v) → Refused (Form v) ≡ checkWords words
-    refused-form v f = sym (after-symbols ∙ fails-at formStage (twinStage ∷ []) v f)
+    pub forms-refuse : (refusal : Refusal) → Refused refusal ≡ checked (formStage ∷ []) words → Refused refusal ≡ checkWords words
+    forms-refuse refusal f = sym (after-symbols ∙ decides formStage (twinStage ∷ []) (Refused refusal) f)
 
-    module _ (h : Says formStage Nowhere) where
-      after-form : checkWords words ≡ checked (twinStage ∷ []) words
-      after-form = after-symbols ∙ fails-not formStage (twinStage ∷ []) h
-
-      pub refused-twin : (v : ℕ) → Says twinStage (At v) → Refused (Twin v) ≡ checkWords words
-      refused-twin v f = sym (after-form ∙ fails-at twinStage [] v f)
-
-      pub done-words : Says twinStage Nowhere → Done ≡ checkWords words
-      done-words f = sym (after-form ∙ fails-not twinStage [] f)
+    pub twins-decide : Done ≡ checked (formStage ∷ []) words → checked (twinStage ∷ []) words ≡ checkWords words
+    twins-decide f = sym (after-symbols ∙ decides formStage (twinStage ∷ []) Done f)

@@ -3,7 +3,7 @@
 -- number, nonterminal k as 256 + k") and 4 FORM: "a right side has two adjacent nonterminals, or no terminal".
 -- Rests on Sided.
 --
--- Main definitions: RightSide, Front, Edged. Main statements: right-side, front, edged.
+-- Main definitions: RightSide, Front, Edged. Main statements: right-side, front, edged, followed.
 use mathlib.Core.Path.{_≡_, refl, ap, _∙_}
 use mathlib.Core.Bool.{true}
 use mathlib.Core.List.{List, [], _∷_, _++_, map, map-append}
@@ -110,3 +110,8 @@ pub record Edged (near next : ℕ) : Type 0 where
 pub edged : {ws : List ℕ} → Front ws → Edged (getD ws 0 0) (getD ws 1 0)
 edged (terminal-first h) = record { terminal-near = λ l. h; nonterminal-near = omega arith; terminal-next = λ l. absurd (omega arith) }
 edged (nonterminal-first h l k) = record { terminal-near = λ n. absurd (omega arith); nonterminal-near = l; terminal-next = λ n. k }
+
+-- a word stands behind a nonterminal that is first
+pub followed : {ws : List ℕ} → Front ws → 256 ≤ getD ws 0 0 → 1 < length ws
+followed (terminal-first h) l = absurd (omega arith)
+followed (nonterminal-first h l k) n = omega arith

@@ -1,13 +1,21 @@
 -- What loading a grammar and asking a set answer, check by check, after the words have been checked.
 -- Document 01: "Loading checks 1 to 6 in that order, each over the whole grammar, then 11. Asking a set checks 1 to 5, then 21."
--- Rests on language's Loads and Stages, and on Answered and Search.
+-- Rests on language's Loads and Stages, and on Answered and RelationRows.
 --
--- Main statements: refused-load, conflict-load, no-room, done-load; refuses, loads; refused-set, no-such-set, given-set.
-use mathlib.Core.Path.{_≡_, sym, ap, _∙_}
+-- Main definition: tableAnswer.
+-- Main statements: refused-load, table-load, done-free; refuses, loads; refused-set, no-such-set, given-set.
+use mathlib.Core.Path.{_≡_, refl, sym, ap, _∙_}
+use mathlib.Core.Bool.{Bool, true, false}
+use mathlib.Core.Option.{Option, none, some}
 use mathlib.Core.List.{List, [], _∷_, _++_}
 use Prim.Native.Nat.{ℕ, _≤_, _<_}
+use native.Mathlib.Omega.{arith}
+use native.Mathlib.Decide.{decLt}
+use lib.Dec.{ltb}
 use lib.ListN.{length, drop}
-use Rattle.laws.specs.Tests.{lt-ltb, le-ltb, le-leb, lt-leb}
+use Rattle.laws.specs.Picks.{pick}
+use Rattle.laws.specs.Least.{firstBelow}
+use Rattle.laws.specs.Tests.{lt-ltb, le-leb, lt-leb}
 use Rattle.language.specs.declared.Refusal.{Refusal}
 use Rattle.language.specs.declared.Refusal.the-variants.{Conflict, NoRoom, NoNonterminal}
 use Rattle.language.specs.declared.Answer.{Answer}
@@ -26,11 +34,27 @@ use Rattle.language.specs.Conflicts.{conflictStage}
 use Rattle.language.specs.Matrix.{matrixOf}
 use Rattle.language.specs.Loads.{LoadInput, conflictCondition, matrixRoom, roomCondition, loadAnswer, loadBytes, loadedBytes, SetInput, pastTheLast, nonterminalCondition, setChecked, setOrRefusal}
 use Rattle.language.specs.declared.SetAnswer.the-variants as set
-use Rattle.table.specs.declared.words.Found.the-variants.{At, Nowhere}
 use Rattle.table.specs.Answered.{refused, passed}
-use Rattle.table.specs.Search.{foundOf, at-is, nowhere-is}
+use Rattle.table.specs.RelationRows.{twoAt}
 
 -- ---- load
+
+-- 6 and then 11: what is answered where the search for a conflict finds that, and there are `room` bytes
+abbrev pub fitted : ℕ → Option ℕ → Answer
+fitted room none = pick (ltb room 4096) (Refused (NoRoom 4096)) Done
+fitted room (some v) = Refused (Conflict v)
+
+abbrev pub tableAnswer : List ℕ → ℕ → Answer
+tableAnswer table room = fitted room (firstBelow (twoAt table) 4096)
+
+-- where neither is refused there is no conflict, and room
+pub done-free : (room : ℕ) (o : Option ℕ) → Done ≡ fitted room o → (o ≡ none) × (4096 ≤ room)
+done-free room none e = (refl, go (decLt room 4096))
+  where
+    go : Dec (room < 4096) → 4096 ≤ room
+    go (yes h) = let q : Done ≡ Refused (NoRoom 4096) = e ∙ rw (lt-ltb room 4096 h) in let z : _≡_ {A = ℕ} 0 1 = cc in absurd (omega arith)
+    go (no h) = omega arith
+done-free room (some v) e = let z : _≡_ {A = ℕ} 0 1 = cc in absurd (omega arith)
 
 module _ (words : List ℕ) (room : ℕ) where
   abbrev lent : LoadInput
@@ -53,18 +77,17 @@ module _ (words : List ℕ) (room : ℕ) where
     after-words : loadAnswer words room ≡ checked later lent
     after-words = load-is ∙ ap (λ answer. thenChecked answer later lent) (sym done)
 
-    pub conflict-load : (v : ℕ) → At v ≡ foundOf (conflictStage (grammarOf words)) → Refused (Conflict v) ≡ loadAnswer words room
-    conflict-load v f = sym (after-words ∙ refused lent (conflictCondition .stage) (roomCondition .stage ∷ []) v (at-is (conflictStage (grammarOf words)) v f))
+    pub table-load : fitted room (conflictStage (grammarOf words)) ≡ loadAnswer words room
+    table-load = sym (after-words ∙ go (conflictStage (grammarOf words)))
+      where
+        room-is : (short : Bool) → _≡_ {A = Answer} (elim (elim short as (λ b. Option ℕ) [ true ↦ some 4096 | false ↦ none ]) [ none ↦ Done | some v ↦ Refused (NoRoom v) ])
+            (pick short (Refused (NoRoom 4096)) Done)
+        room-is true = refl
+        room-is false = refl
 
-    module _ (free : Nowhere ≡ foundOf (conflictStage (grammarOf words))) where
-      after-conflicts : loadAnswer words room ≡ checked (roomCondition .stage ∷ []) lent
-      after-conflicts = after-words ∙ passed lent (conflictCondition .stage) (roomCondition .stage ∷ []) (nowhere-is (conflictStage (grammarOf words)) free)
-
-      pub no-room : room < 4096 → Refused (NoRoom 4096) ≡ loadAnswer words room
-      no-room h = sym (after-conflicts ∙ refused lent (roomCondition .stage) [] 4096 (rw (lt-ltb room 4096 h, matrixRoom)))
-
-      pub done-load : 4096 ≤ room → Done ≡ loadAnswer words room
-      done-load h = sym (after-conflicts ∙ passed lent (roomCondition .stage) [] (rw (le-ltb room 4096 h, matrixRoom)))
+        go : (o : Option ℕ) → _≡_ {A = Answer} (elim o [ none ↦ checked (roomCondition .stage ∷ []) lent | some v ↦ Refused (Conflict v) ]) (fitted room o)
+        go none = room-is (ltb room 4096)
+        go (some v) = refl
 
 -- the answer and the lent bytes afterwards: on a refusal as they were, else the matrix and what stood beyond
 module _ (words bytes : List ℕ) where

@@ -3,19 +3,24 @@
 -- #; # equals #. blank (0): none of these"; 6 CONFLICT "a pair has two relations", "least 64a + b".
 -- Rests on Shown, and on language's RelationTests, RelationPairs, Conflicts and Matrix.
 --
--- Main definitions: noRows, Seen, endTest, Union, testOf, Shows, clashIn, entryIn.
--- Main statements: seen-none, seen-more, ends-add, shows, conflict-is, matrix-is.
+-- Main definitions: shownIn, Seen, endTest, Union, testOf, Shows, numberOf, entryIn, markedAt, twoAt.
+-- Main statements: ends-seen, seen-more, shows, marked, conflict-is, matrix-is.
 use mathlib.Core.Path.{_≡_, refl, sym, ap, ap₂, _∙_, fun-ext}
-use mathlib.Core.Bool.{Bool, true, false, _&&_, _||_, or-true}
+use mathlib.Core.Bool.{Bool, true, false, _&&_, _||_, or-true, or-false, or-comm, or-assoc}
+use mathlib.Core.Option.{Option, none, some}
 use mathlib.Core.List.{List, [], _∷_, _++_}
-use Prim.Native.Nat.{ℕ, _+_, _/_, _%_}
+use Prim.Native.Nat.{ℕ, zero, suc, _+_, _*_, _/_, _%_, _≤_, _<_}
 use native.Mathlib.Omega.{arith}
+use native.Mathlib.Nat.{zero-add}
 use native.Mathlib.Numerals.{add-one}
+use native.Mathlib.Decide.{ℕ-discrete}
 use lib.Dec.{eqb}
-use lib.ListN.{length, getD, replicate, length-replicate}
-use Rattle.laws.specs.Tests.{any, any-cons, upTo, anyBelow, not-both, false-unless}
-use Rattle.laws.specs.Least.{firstBelow}
-use Rattle.laws.specs.Tabulate.{tabulate}
+use lib.ListN.{length, getD, set, replicate, length-replicate, length-set}
+use lib.Seq.{getD-set-same, getD-set-other}
+use Rattle.laws.specs.Picks.{pick}
+use Rattle.laws.specs.Tests.{any, any-cons, upTo, anyBelow, not-both, false-unless, eq-eqb, ne-eqb}
+use Rattle.laws.specs.Least.{firstBelow, firstBelow-some, firstBelow-none}
+use Rattle.laws.specs.Tabulate.{tabulate, tabulateFrom, getD-tabulate}
 use Rattle.laws.specs.Masks.{bit, bit-pow}
 use Rattle.language.specs.Symbols.{Symbol, Relation, blank, yields, equal, takes, relationNumber}
 use Rattle.language.specs.Grammar.{Grammar, ruleAt, inPlay, mirrored}
@@ -25,54 +30,9 @@ use Rattle.language.specs.RelationTests.{equalTest, yieldsTest, takesTest, star
 use Rattle.language.specs.RelationPairs.{in-use, equal-pair, yields-pair, takes-pair}
 use Rattle.language.specs.Conflicts.{twoOf, clash, clashAt, conflictStage}
 use Rattle.language.specs.Matrix.{entryAt, matrixOf}
-use Rattle.table.specs.declared.relations.Relations.{Relations}
-use Rattle.table.specs.MaskRows.{gains, none-bit}
-use Rattle.table.specs.Shown.{holds, Rows, Adds, here, anywhere, row-gains, gains-long}
+use Rattle.table.specs.MaskRows.{none-bit}
+use Rattle.table.specs.Shown.{holds, Adds, here, anywhere, row-same}
 use Rattle.table.specs.SetPasses.{AreSets}
-
--- ---- all rules
-
--- rows in which nothing is related
-abbrev pub noRows : Relations
-noRows = record { yields = replicate 64 0; equal = replicate 64 0; takes = replicate 64 0 }
-
--- rule r's right side shows the relation
-abbrev shownIn : Grammar → Relation → ℕ → ℕ → ℕ → Bool
-shownIn g k a b r = anywhere (here g k a b) (ruleAt g r .right)
-
--- the rows say what the first r rules show
-pub record Seen (g : Grammar) (r : ℕ) (rows : Relations) : Type 0 where
-  pub long : Rows rows
-  pub says : (k : Relation) (a b : ℕ) → holds rows k a b ≡ any (shownIn g k a b) (upTo r)
-
-pub seen-none : (g : Grammar) → Seen g 0 noRows
-seen-none g = record { long = record { yields = length-replicate {A = ℕ} 64 0; equal = length-replicate {A = ℕ} 64 0; takes = length-replicate {A = ℕ} 64 0 }; says = says }
-  where
-    says : (k : Relation) (a b : ℕ) → holds noRows k a b ≡ false
-    says blank a b = refl
-    says yields a b = none-bit 64 a b
-    says equal a b = none-bit 64 a b
-    says takes a b = none-bit 64 b a
-
-module _ (test : ℕ → Bool) where
-  any-snoc : (l : List ℕ) (n : ℕ) → any test (l ++ (n ∷ [])) ≡ (any test l || test n)
-  any-snoc [] n = go (test n)
-    where
-      go : (t : Bool) → _≡_ {A = Bool} (elim t [ true ↦ true | false ↦ false ]) t
-      go true = refl
-      go false = refl
-  any-snoc (x ∷ l) n = go (test x) (any-snoc l n)
-    where
-      go : (t : Bool) → any test (l ++ (n ∷ [])) ≡ (any test l || test n)
-          → _≡_ {A = Bool} (elim t [ true ↦ true | false ↦ any test (l ++ (n ∷ [])) ]) ((elim t [ true ↦ true | false ↦ any test l ]) || test n)
-      go true e = refl
-      go false e = e
-
-pub seen-more : {g : Grammar} {r : ℕ} {rows after : Relations} → Seen g r rows → Adds (λ k a b. anywhere (here g k a b) (ruleAt g r .right)) rows after → Seen g (r + 1) after
-seen-more {g} {r} seen adds = record {
-  long = adds .rows;
-  says = λ k a b. adds .says k a b ∙ ap (λ t. t || shownIn g k a b r) (seen .says k a b) ∙ rw (add-one r) (sym (any-snoc (shownIn g k a b) (upTo r) r));
-}
 
 -- ---- # and the axioms
 
@@ -89,22 +49,88 @@ any-below-same f h e n = ap (λ t. anyBelow t n) (fun-ext e)
 abbrev pub Union : List ℕ → ℕ → ℕ → Type 0
 Union masks count m = (t : ℕ) → bit m t ≡ anyBelow (λ x. bit (getD masks x 0) t) count
 
-pub ends-add : (g : Grammar) (left right : List ℕ) → AreSets g left right → (rows : Relations) → Rows rows
-    → (m n : ℕ) → Union left (g .axioms) m → Union right (g .axioms) n
-    → Adds (endTest g) rows (record { yields = gains (rows .yields) 0 m; equal = gains (rows .equal) 0 1; takes = gains (rows .takes) 0 n })
-ends-add g left right sets rows long m n um un = record {
-  rows = record { yields = gains-long (rows .yields) 0 m (long .yields); equal = gains-long (rows .equal) 0 1 (long .equal); takes = gains-long (rows .takes) 0 n (long .takes) };
-  says = says;
+-- ---- all rules
+
+-- rule r's right side shows the relation
+abbrev pub shownIn : Grammar → Relation → ℕ → ℕ → ℕ → Bool
+shownIn g k a b r = anywhere (here g k a b) (ruleAt g r .right)
+
+-- the rows say what is said of # and the axioms, and what the first r rules show
+pub record Seen (g : Grammar) (r : ℕ) (rows : List ℕ) : Type 0 where
+  pub long : length rows ≡ 256
+  pub says : (k : Relation) (a b : ℕ) → holds rows k a b ≡ (endTest g k a b || any (shownIn g k a b) (upTo r))
+
+module _ (test : ℕ → Bool) where
+  any-snoc : (l : List ℕ) (n : ℕ) → any test (l ++ (n ∷ [])) ≡ (any test l || test n)
+  any-snoc [] n = go (test n)
+    where
+      go : (t : Bool) → _≡_ {A = Bool} (elim t [ true ↦ true | false ↦ false ]) t
+      go true = refl
+      go false = refl
+  any-snoc (x ∷ l) n = go (test x) (any-snoc l n)
+    where
+      go : (t : Bool) → any test (l ++ (n ∷ [])) ≡ (any test l || test n)
+          → _≡_ {A = Bool} (elim t [ true ↦ true | false ↦ any test (l ++ (n ∷ [])) ]) ((elim t [ true ↦ true | false ↦ any test l ]) || test n)
+      go true e = refl
+      go false e = e
+
+pub seen-more : {g : Grammar} {r : ℕ} {rows after : List ℕ} → Seen g r rows → Adds (λ k a b. shownIn g k a b r) rows after → Seen g (r + 1) after
+seen-more {g} {r} seen adds = record {
+  long = adds .long;
+  says = λ k a b.
+      adds .says k a b ∙ ap (λ t. t || shownIn g k a b r) (seen .says k a b) ∙ or-assoc (endTest g k a b) (any (shownIn g k a b) (upTo r)) (shownIn g k a b r)
+      ∙ ap (λ t. endTest g k a b || t) (rw (add-one r) (sym (any-snoc (shownIn g k a b) (upTo r) r)));
 }
+
+-- one row is set: it has those members, and the other rows stay
+set-bit : (rows : List ℕ) (i m x t : ℕ) → i < length rows → bit (getD rows x 0) t ≡ false → bit (getD (set rows i m) x 0) t ≡ (eqb x i && bit m t)
+set-bit rows i m x t h empty = go (ℕ-discrete x i)
   where
-    says : (k : Relation) (a b : ℕ) → holds (record { yields = gains (rows .yields) 0 m; equal = gains (rows .equal) 0 1; takes = gains (rows .takes) 0 n }) k a b
-        ≡ (holds rows k a b || endTest g k a b)
+    go : Dec (x ≡ i) → bit (getD (set rows i m) x 0) t ≡ (eqb x i && bit m t)
+    go (yes e) = rw (e, getD-set-same rows i m 0 h, eq-eqb i i refl)
+    go (no n) = rw (getD-set-other rows i x m 0 n, ne-eqb x i n) empty
+
+set-kept : (rows : List ℕ) (i m x t : ℕ) → (x ≡ i → ⊥) → bit (getD (set rows i m) x 0) t ≡ bit (getD rows x 0) t
+set-kept rows i m x t n = ap (λ (row : ℕ). bit row t) (getD-set-other rows i x m 0 n)
+
+-- the rows of #, from rows that say nothing
+ends-from : (g : Grammar) (left right : List ℕ) → AreSets g left right → (blanks : List ℕ) → length blanks ≡ 256 → ((x t : ℕ) → bit (getD blanks x 0) t ≡ false)
+    → (m n : ℕ) → Union left (g .axioms) m → Union right (g .axioms) n → Seen g 0 (set (set (set blanks 1 m) 2 1) 3 n)
+ends-from g left right sets blanks long empty m n um un = record { long = all-long; says = says }
+  where
+    first-long : length (set blanks 1 m) ≡ 256
+    first-long = length-set blanks 1 m ∙ long
+
+    second-long : length (set (set blanks 1 m) 2 1) ≡ 256
+    second-long = length-set (set blanks 1 m) 2 1 ∙ first-long
+
+    all-long : length (set (set (set blanks 1 m) 2 1) 3 n) ≡ 256
+    all-long = length-set (set (set blanks 1 m) 2 1) 3 n ∙ second-long
+
+    -- row 4a + k is that of # where a is 0
+    at : (rows : List ℕ) (k m a t : ℕ) (test : Bool) → k < length rows → bit (getD rows (4 * a + k) 0) t ≡ false → bit m t ≡ test
+        → bit (getD (set rows k m) (4 * a + k) 0) t ≡ ((eqb a 0 && test) || false)
+    at rows k m a t test h bare e =
+        let same : eqb (4 * a + k) k ≡ eqb a 0 = simp zero-add at (row-same k a 0) in
+        set-bit rows k m (4 * a + k) t h bare ∙ ap (λ s. s && bit m t) same ∙ ap (λ s. eqb a 0 && s) e ∙ sym (or-false (eqb a 0 && test))
+
+    says : (k : Relation) (a b : ℕ) → holds (set (set (set blanks 1 m) 2 1) 3 n) k a b ≡ (endTest g k a b || false)
     says blank a b = refl
-    says yields a b = row-gains (rows .yields) 0 m a b _ (long .yields) (omega arith)
-        (ap (λ t. eqb a 0 && t) (um b ∙ any-below-same (λ x. bit (getD left x 0) b) (λ x. leftMember g x b) (λ x. sets .lefts x b) (g .axioms)))
-    says equal a b = row-gains (rows .equal) 0 1 a b _ (long .equal) (omega arith) (ap (λ t. eqb a 0 && t) (bit-pow 0 b))
-    says takes a b = row-gains (rows .takes) 0 n b a _ (long .takes) (omega arith)
-        (ap (λ t. eqb b 0 && t) (un a ∙ any-below-same (λ x. bit (getD right x 0) a) (λ x. leftMember (mirrored g) x a) (λ x. sets .rights x a) (g .axioms)))
+    says yields a b =
+        set-kept (set (set blanks 1 m) 2 1) 3 n (4 * a + 1) b (omega arith) ∙ set-kept (set blanks 1 m) 2 1 (4 * a + 1) b (omega arith)
+        ∙ at blanks 1 m a b (startsAxiom g b) (omega arith) (empty (4 * a + 1) b)
+        (um b ∙ any-below-same (λ x. bit (getD left x 0) b) (λ x. leftMember g x b) (λ x. sets .lefts x b) (g .axioms))
+    says equal a b =
+        set-kept (set (set blanks 1 m) 2 1) 3 n (4 * a + 2) b (omega arith)
+        ∙ at (set blanks 1 m) 2 1 a b (eqb b 0) (omega (arith, first-long)) (set-kept blanks 1 m (4 * a + 2) b (omega arith) ∙ empty (4 * a + 2) b) (bit-pow 0 b)
+    says takes a b =
+        at (set (set blanks 1 m) 2 1) 3 n b a (endsAxiom g a) (omega (arith, second-long))
+        (set-kept (set blanks 1 m) 2 1 (4 * b + 3) a (omega arith) ∙ set-kept blanks 1 m (4 * b + 3) a (omega arith) ∙ empty (4 * b + 3) a)
+        (un a ∙ any-below-same (λ x. bit (getD right x 0) a) (λ x. leftMember (mirrored g) x a) (λ x. sets .rights x a) (g .axioms))
+
+pub ends-seen : (g : Grammar) (left right : List ℕ) → AreSets g left right → (m n : ℕ) → Union left (g .axioms) m → Union right (g .axioms) n
+    → Seen g 0 (set (set (set (replicate 256 0) 1 m) 2 1) 3 n)
+ends-seen g left right sets = ends-from g left right sets (replicate 256 0) (length-replicate {A = ℕ} 256 0) (none-bit 256)
 
 -- ---- the relations
 
@@ -115,7 +141,7 @@ testOf g equal a b = equalTest g a b
 testOf g takes a b = takesTest g a b
 
 -- the rows are the relations
-abbrev pub Shows : Grammar → Relations → Type 0
+abbrev pub Shows : Grammar → List ℕ → Type 0
 Shows g rows = (k : Relation) (a b : ℕ) → holds rows k a b ≡ testOf g k a b
 
 -- what is shown anywhere, as language's tests say it
@@ -141,9 +167,9 @@ any-either f h (x ∷ l) =
     any-cons (λ r. f r || h r) x l ∙ ap (λ t. f x || h x || t) (any-either f h l) ∙ swap (f x) (h x) (any f l) (any h l)
     ∙ sym (ap₂ _||_ (any-cons f x l) (any-cons h x l))
 
-pub shows : {g : Grammar} {rows after : Relations} → Seen g (length (g .rules)) rows → Adds (endTest g) rows after → Shows g after
+pub shows : {g : Grammar} {rows : List ℕ} → Seen g (length (g .rules)) rows → Shows g rows
 unfolding yieldsTest equalTest takesTest inPlay
-shows {g} {rows} {after} seen adds = by-kind
+shows {g} {rows} seen = by-kind
   where
     right : ℕ → List Symbol
     right r = ruleAt g r .right
@@ -151,10 +177,10 @@ shows {g} {rows} {after} seen adds = by-kind
     all : List ℕ
     all = inPlay g
 
-    by : (k : Relation) (a b : ℕ) (test : Bool) → any (shownIn g k a b) all ≡ test → holds after k a b ≡ (test || endTest g k a b)
-    by k a b test e = adds .says k a b ∙ ap (λ t. t || endTest g k a b) (seen .says k a b ∙ e)
+    by : (k : Relation) (a b : ℕ) (test : Bool) → any (shownIn g k a b) all ≡ test → holds rows k a b ≡ (test || endTest g k a b)
+    by k a b test e = seen .says k a b ∙ ap (λ t. endTest g k a b || t) e ∙ or-comm (endTest g k a b) test
 
-    by-kind : (k : Relation) (a b : ℕ) → holds after k a b ≡ testOf g k a b
+    by-kind : (k : Relation) (a b : ℕ) → holds rows k a b ≡ testOf g k a b
     by-kind blank a b = refl
     by-kind yields a b = by yields a b _ (any-same _ _ (λ r. somewhere-is (this a ∷ one (λ d. leftMember g d b) ∷ []) (right r)) all)
     by-kind equal a b = by equal a b _
@@ -164,11 +190,23 @@ shows {g} {rows} {after} seen adds = by-kind
 
 -- ---- conflicts and entries
 
-abbrev pub clashIn : Relations → ℕ → Bool
-clashIn rows v = twoOf (holds rows equal (v / 64) (v % 64)) (holds rows yields (v / 64) (v % 64)) (holds rows takes (v / 64) (v % 64))
+-- the relation's number, and 4 for two relations
+abbrev pub numberOf : Bool → Bool → Bool → ℕ
+numberOf e y t = pick (twoOf e y t) 4 (relationNumber (firstOf e y t))
 
-abbrev pub entryIn : Relations → ℕ → ℕ
-entryIn rows v = relationNumber (firstOf (holds rows equal (v / 64) (v % 64)) (holds rows yields (v / 64) (v % 64)) (holds rows takes (v / 64) (v % 64)))
+-- two of the three, as code asks it
+pub two-is : (e y t : Bool) → ((e && y) || (e && t) || (y && t)) ≡ twoOf e y t
+two-is true true t = refl
+two-is true false t = or-false t
+two-is false true t = refl
+two-is false false t = refl
+
+abbrev pub entryIn : List ℕ → ℕ → ℕ
+entryIn rows v = numberOf (holds rows equal (v / 64) (v % 64)) (holds rows yields (v / 64) (v % 64)) (holds rows takes (v / 64) (v % 64))
+
+-- the matrix's entry, and 4 for a conflict
+abbrev pub markedAt : Grammar → ℕ → ℕ
+markedAt g v = pick (clashAt g v) 4 (entryAt g v)
 
 module _ {g : Grammar} (range : InRange g) where
   -- an unused pair has no relation
@@ -197,17 +235,49 @@ module _ {g : Grammar} (range : InRange g) where
       go true e = refl
       go false e = rw (unused a b e equal, unused a b e yields, unused a b e takes)
 
-  module _ (rows : Relations) (are : Shows g rows) where
-    clashes : (v : ℕ) → clashIn rows v ≡ clashAt g v
-    clashes v = rw (are equal (v / 64) (v % 64), are yields (v / 64) (v % 64), are takes (v / 64) (v % 64)) (clash-is (v / 64) (v % 64))
+  pub marked : (rows : List ℕ) → Shows g rows → (n : ℕ) → tabulate (entryIn rows) n ≡ tabulate (markedAt g) n
+  marked rows are n = ap (λ (entry : ℕ → ℕ). tabulate entry n) (fun-ext same)
+    where
+      same : (v : ℕ) → entryIn rows v ≡ markedAt g v
+      same v =
+          rw (are equal (v / 64) (v % 64), are yields (v / 64) (v % 64), are takes (v / 64) (v % 64))
+          (ap₂ (λ (two : Bool) (entry : ℕ). pick two 4 entry) (clash-is (v / 64) (v % 64)) (ap relationNumber (relation-is (v / 64) (v % 64))))
 
-    entries : (v : ℕ) → entryIn rows v ≡ entryAt g v
-    entries v = rw (are equal (v / 64) (v % 64), are yields (v / 64) (v % 64), are takes (v / 64) (v % 64)) (ap relationNumber (relation-is (v / 64) (v % 64)))
+-- the table has a conflict at v
+abbrev pub twoAt : List ℕ → ℕ → Bool
+twoAt table v = eqb (getD table v 0) 4
 
-    pub conflict-is : firstBelow (clashIn rows) 4096 ≡ conflictStage g
-    unfolding conflictStage
-    conflict-is = ap (λ (test : ℕ → Bool). firstBelow test 4096) (fun-ext clashes)
+-- searches, and lists, of what is the same below n
+first-same : (f h : ℕ → Bool) (n : ℕ) → ((i : ℕ) → i < n → f i ≡ h i) → firstBelow f n ≡ firstBelow h n
+first-same f h n same = go (firstBelow h n) refl
+  where
+    go : (o : Option ℕ) → firstBelow h n ≡ o → firstBelow f n ≡ o
+    go none e = firstBelow-none f n .1 (λ i l. same i l ∙ firstBelow-none h n .0 e i l)
+    go (some v) e =
+        let w = firstBelow-some h n v .0 e in
+        firstBelow-some f n v .1 (record { holds = (w .holds .0, same v (w .holds .0) ∙ w .holds .1); least = λ u l p. w .least u l (p .0, sym (same u (p .0)) ∙ p .1) })
 
-    pub matrix-is : tabulate (entryIn rows) 4096 ≡ matrixOf g
-    unfolding matrixOf
-    matrix-is = ap (λ (entry : ℕ → ℕ). tabulate entry 4096) (fun-ext entries)
+from-same : (f h : ℕ → ℕ) (n i : ℕ) → ((k : ℕ) → k < i + n → f k ≡ h k) → tabulateFrom f n i ≡ tabulateFrom h n i
+from-same f h zero i same = refl
+from-same f h (suc n) i same = ap₂ (λ (x : ℕ) (l : List ℕ). x ∷ l) (same i (omega arith)) (from-same f h n (suc i) (λ k l. same k (omega arith)))
+
+number-small : (r : Relation) → relationNumber r ≤ 3
+number-small blank = omega arith
+number-small yields = omega arith
+number-small equal = omega arith
+number-small takes = omega arith
+
+four : (two : Bool) (r : Relation) → eqb (pick two 4 (relationNumber r)) 4 ≡ two
+four true r = refl
+four false r = ne-eqb (relationNumber r) 4 (λ e. omega (arith, number-small r))
+
+module _ (g : Grammar) where
+  pub conflict-is : (table : List ℕ) → table ≡ tabulate (markedAt g) 4096 → firstBelow (twoAt table) 4096 ≡ conflictStage g
+  unfolding conflictStage
+  conflict-is table is = first-same (twoAt table) (clashAt g) 4096
+      (λ v h. ap (λ (t : List ℕ). twoAt t v) is ∙ ap (λ (entry : ℕ). eqb entry 4) (getD-tabulate (markedAt g) 4096 v 0 h) ∙ four (clashAt g v) (relationOf g (v / 64) (v % 64)))
+
+  pub matrix-is : conflictStage g ≡ none → tabulate (markedAt g) 4096 ≡ matrixOf g
+  unfolding conflictStage matrixOf
+  matrix-is free = from-same (markedAt g) (entryAt g) 4096 0
+      (λ v h. ap (λ (two : Bool). pick two 4 (entryAt g v)) (firstBelow-none (clashAt g) 4096 .0 free v h))

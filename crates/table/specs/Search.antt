@@ -2,10 +2,10 @@
 -- Document 01, "Refusal numbers": "first such word", "first such entry", "first such rule", "least rule for which this holds".
 -- Rests on laws' Least and Tests.
 --
--- Main definition: foundOf; of laws: Clear.
--- Main statements: found-at, found-nowhere (what the search returns is what the definition finds), at-is, nowhere-is (and back),
--- fails-below, clear-below (a search that answers yes or no).
-use mathlib.Core.Path.{_≡_, refl, sym, ap}
+-- Main definition: answerOf; of laws: Clear.
+-- Main statements: found-at, found-nowhere (what a check answers whose search finds that), fails-below, clear-below (a search that answers yes
+-- or no).
+use mathlib.Core.Path.{_≡_, sym, ap}
 use mathlib.Core.Bool.{Bool, true, false}
 use mathlib.Core.Option.{Option, none, some}
 use Prim.Native.Nat.{ℕ, _≤_, _<_}
@@ -13,28 +13,20 @@ use native.Mathlib.Omega.{arith}
 use Rattle.laws.specs.Least.{firstBelow, first-at, first-nowhere}
 pub use Rattle.laws.specs.Least.{Clear, clear-none, clear-more}
 use Rattle.laws.specs.Tests.{not-both, false-unless, anyBelow, anyBelow-iff}
-use Rattle.table.specs.declared.words.Found.{Found}
-use Rattle.table.specs.declared.words.Found.the-variants.{At, Nowhere}
+use Rattle.language.specs.declared.Refusal.{Refusal}
+use Rattle.language.specs.declared.Answer.{Answer}
+use Rattle.language.specs.declared.Answer.the-variants.{Done, Refused}
 
--- what a search finds, as the code says it
-abbrev pub foundOf : Option ℕ → Found
-foundOf none = Nowhere
-foundOf (some v) = At v
-
-pub at-is : (o : Option ℕ) (v : ℕ) → At v ≡ foundOf o → o ≡ some v
-at-is none v e = let z : _≡_ {A = ℕ} 0 1 = cc in absurd (omega arith)
-at-is (some u) v e = let q : u ≡ v = cc in ap some q
-
-pub nowhere-is : (o : Option ℕ) → Nowhere ≡ foundOf o → o ≡ none
-nowhere-is none e = refl
-nowhere-is (some u) e = let z : _≡_ {A = ℕ} 0 1 = cc in absurd (omega arith)
+-- what a check answers whose search finds that
+abbrev pub answerOf : (ℕ → Refusal) → Option ℕ → Answer
+answerOf refusal o = elim o [ none ↦ Done | some v ↦ Refused (refusal v) ]
 
 module _ (fails : ℕ → Bool) where
-  pub found-at : (n i : ℕ) → i < n → Clear fails i → fails i ≡ true → At i ≡ foundOf (firstBelow fails n)
-  found-at n i h clear e = ap foundOf (sym (first-at fails n i h clear e))
+  pub found-at : (refusal : ℕ → Refusal) (n i : ℕ) → i < n → Clear fails i → fails i ≡ true → Refused (refusal i) ≡ answerOf refusal (firstBelow fails n)
+  found-at refusal n i h clear e = ap (answerOf refusal) (sym (first-at fails n i h clear e))
 
-  pub found-nowhere : (n i : ℕ) → n ≤ i → Clear fails i → Nowhere ≡ foundOf (firstBelow fails n)
-  found-nowhere n i h clear = ap foundOf (sym (first-nowhere fails n i h clear))
+  pub found-nowhere : (refusal : ℕ → Refusal) (n i : ℕ) → n ≤ i → Clear fails i → Done ≡ answerOf refusal (firstBelow fails n)
+  found-nowhere refusal n i h clear = ap (answerOf refusal) (sym (first-nowhere fails n i h clear))
 
   -- a search that only asks whether the check fails
   pub fails-below : (n i : ℕ) → i < n → fails i ≡ true → true ≡ anyBelow fails n

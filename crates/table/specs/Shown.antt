@@ -5,47 +5,42 @@
 -- set."
 -- Rests on Edges, MaskRows and SetPasses, and on language's SetMasks.
 --
--- Main definitions: holds, Adds, here, pairShown, anywhere, Walked.
--- Main statements: pair-adds (what a pair of neighbours adds), walked-step, walked-end (what a right side adds).
+-- Main definitions: holds, Adds, here, shownBy, pairShown, anywhere, Walked.
+-- Main statements: pair-adds, around-adds (what a pair of neighbours adds, and one around a nonterminal), walked-step, walked-end
+-- (what a right side adds).
 use mathlib.Core.Path.{_≡_, refl, sym, ap, ap₂, _∙_}
 use mathlib.Core.Bool.{Bool, true, false, _&&_, _||_, or-assoc, or-false, and-false, and-comm}
 use mathlib.Core.List.{List, [], _∷_, map}
-use Prim.Native.Nat.{ℕ, suc, _-_, _^_, _≤_, _<_}
+use Prim.Native.Nat.{ℕ, suc, _+_, _-_, _*_, _^_, _≤_, _<_}
 use native.Mathlib.Omega.{arith}
-use native.Mathlib.Decide.{decLt}
-use lib.Dec.{eqb, ltb, leb}
+use native.Mathlib.Decide.{decLt, ℕ-discrete}
+use lib.Dec.{eqb, leb}
 use lib.ListN.{length, getD, drop, length-set, drop-of-length-le}
-use lib.Seq.{drop-cons}
+use lib.Seq.{drop-cons, getD-set-other}
 use lib.Bits.{bitOr}
 use Rattle.laws.specs.Picks.{pick}
-use Rattle.laws.specs.Tests.{lt-ltb, le-ltb, le-leb, lt-leb, ne-eqb}
+use Rattle.laws.specs.Tests.{le-leb, lt-leb, eq-eqb, ne-eqb}
 use Rattle.laws.specs.Masks.{bit, bit-pow}
 use Rattle.language.specs.Symbols.{Symbol, terminal, nonterminal, symbolOf, Relation, blank, yields, equal, takes}
 use Rattle.language.specs.Grammar.{Grammar, mirrored}
 use Rattle.language.specs.RightSides.{Pattern, this, one, passes, fits}
 use Rattle.language.specs.SetMasks.{leftMember}
-use Rattle.table.specs.declared.relations.Relations.{Relations}
+use Rattle.table.specs.declared.relations.Added.{Added}
 use Rattle.table.specs.Rules.{is-terminal, is-nonterminal}
 use Rattle.table.specs.MaskRows.{gains, gains-bit}
 use Rattle.table.specs.Edges.{RightSide}
 use Rattle.table.specs.SetPasses.{AreSets}
 
 -- the rows say that a stands in this relation to b
-abbrev pub holds : Relations → Relation → ℕ → ℕ → Bool
+abbrev pub holds : List ℕ → Relation → ℕ → ℕ → Bool
 holds rows blank a b = false
-holds rows yields a b = bit (getD (rows .yields) a 0) b
-holds rows equal a b = bit (getD (rows .equal) a 0) b
-holds rows takes a b = bit (getD (rows .takes) b 0) a
+holds rows yields a b = bit (getD rows (4 * a + 1) 0) b
+holds rows equal a b = bit (getD rows (4 * a + 2) 0) b
+holds rows takes a b = bit (getD rows (4 * b + 3) 0) a
 
--- each relation has 64 rows
-pub record Rows (rows : Relations) : Type 0 where
-  pub yields : length (rows .yields) ≡ 64
-  pub equal : length (rows .equal) ≡ 64
-  pub takes : length (rows .takes) ≡ 64
-
--- the rows afterwards say what they said before, and what the tests say
-pub record Adds (tests : Relation → ℕ → ℕ → Bool) (before after : Relations) : Type 0 where
-  pub rows : Rows after
+-- the rows afterwards, 256 of them, say what they said before, and what the tests say
+pub record Adds (tests : Relation → ℕ → ℕ → Bool) (before after : List ℕ) : Type 0 where
+  pub long : length after ≡ 256
   pub says : (k : Relation) (a b : ℕ) → holds after k a b ≡ (holds before k a b || tests k a b)
 
 -- ---- one pair of neighbours
@@ -57,16 +52,33 @@ here g yields a b w = fits (this a ∷ one (λ d. leftMember g d b) ∷ []) w
 here g equal a b w = fits (this a ∷ this b ∷ []) w || fits (this a ∷ one (λ k. true) ∷ this b ∷ []) w
 here g takes a b w = fits (one (λ d. leftMember (mirrored g) d a) ∷ this b ∷ []) w
 
--- the rows with what two neighbours show; `after` is the symbol behind them, 0 where there is none
-abbrev pub pairShown : List ℕ → List ℕ → ℕ → ℕ → ℕ → Relations → Relations
-pairShown left right a b after rows =
-    pick (leb 256 a) (record { yields = rows .yields; equal = rows .equal; takes = gains (rows .takes) b (getD right (a - 256) 0) })
-    (pick (ltb b 256) (record { yields = rows .yields; equal = gains (rows .equal) a (2 ^ b); takes = rows .takes })
-    (record {
-      yields = gains (rows .yields) a (getD left (b - 256) 0);
-      equal = pick (eqb after 0) (rows .equal) (gains (rows .equal) a (2 ^ after));
-      takes = rows .takes;
-    }))
+-- what code asks of the symbols of a pair: those that pick a row, a bit or a set are below 64
+pub record Paired (a b : ℕ) : Type 0 where
+  pub first-terminal : a < 256 → a < 64
+  pub first-nonterminal : a < 320
+  pub second-terminal : b < 256 → b < 64
+  pub second-nonterminal : b < 320
+  pub second : 256 ≤ a → b < 64
+
+-- what the pair a, b shows: the row that gains, and the members it gains
+abbrev pub shownBy : List ℕ → List ℕ → ℕ → ℕ → Added
+shownBy left right a b =
+    pick (leb 256 a) (record { row = 4 * b + 3; mask = getD right (a - 256) 0 })
+    (pick (leb 256 b) (record { row = 4 * a + 1; mask = getD left (b - 256) 0 })
+    (record { row = 4 * a + 2; mask = 2 ^ b }))
+
+-- that row is one of the 256
+pub row-below : (left right : List ℕ) (a b : ℕ) → Paired a b → shownBy left right a b .row < 256
+row-below left right a b p = go (decLt a 256) (decLt b 256)
+  where
+    go : Dec (a < 256) → Dec (b < 256) → shownBy left right a b .row < 256
+    go (yes h) (yes l) = rw (lt-leb 256 a h, lt-leb 256 b l) (omega (arith, p .first-terminal h))
+    go (yes h) (no l) = rw (lt-leb 256 a h, le-leb 256 b (omega arith)) (omega (arith, p .first-terminal h))
+    go (no h) l = rw (le-leb 256 a (omega arith)) (omega (arith, p .second (omega arith)))
+
+-- the rows with what it shows
+abbrev pub pairShown : List ℕ → List ℕ → ℕ → ℕ → List ℕ → List ℕ
+pairShown left right a b rows = gains rows (shownBy left right a b .row) (shownBy left right a b .mask)
 
 -- the neighbours at the start of the words ws
 pub data Neighbours : List ℕ → Type 0 where
@@ -97,20 +109,17 @@ fits-two p q x y w = fits-more p q [] x (y ∷ w) ∙ ap (λ t. passes p x && t)
 fits-three : (p q r : Pattern) (x y : Symbol) (w : List Symbol) → fits (p ∷ q ∷ r ∷ []) (x ∷ y ∷ w) ≡ (passes p x && (passes q y && fits (r ∷ []) w))
 fits-three p q r x y w = fits-more p q (r ∷ []) x (y ∷ w) ∙ ap (λ t. passes p x && t) (fits-more q r [] y w)
 
--- what code asks of the symbols of a pair: those that pick a row, a bit or a set are below 64
-pub record Paired (a b after : ℕ) : Type 0 where
-  pub first-terminal : a < 256 → a < 64
-  pub first-nonterminal : a < 320
-  pub second-terminal : b < 256 → b < 64
-  pub second-nonterminal : b < 320
-  pub second : 256 ≤ a → b < 64
-  pub third : 256 ≤ b → after < 64
-
-pub paired : {ws : List ℕ} → Neighbours ws → Paired (getD ws 0 0) (getD ws 1 0) (getD ws 2 0)
+pub paired : {ws : List ℕ} → Neighbours ws → Paired (getD ws 0 0) (getD ws 1 0)
 paired (terminals h l) = omega arith
 paired (before-last h l n) = omega arith
 paired (around h l n p q) = omega arith
 paired (after-first l n q) = omega arith
+
+pub paired-around : {ws : List ℕ} → Neighbours ws → 256 ≤ getD ws 1 0 → 2 < length ws → Paired (getD ws 0 0) (getD ws 2 0)
+paired-around (terminals h l) m k = absurd (omega arith)
+paired-around (before-last h l n) m k = absurd (omega arith)
+paired-around (around h l n p q) m k = omega arith
+paired-around (after-first l n q) m k = absurd (omega arith)
 
 module _ (g : Grammar) (a b : ℕ) (x y : Symbol) (w : List Symbol) where
   here-yields : here g yields a b (x ∷ y ∷ w) ≡ (passes (this a) x && passes (one (λ d. leftMember g d b)) y)
@@ -123,77 +132,124 @@ module _ (g : Grammar) (a b : ℕ) (x y : Symbol) (w : List Symbol) where
       ≡ ((passes (this a) x && passes (this b) y) || (passes (this a) x && (passes (one (λ k. true)) y && fits (this b ∷ []) w)))
   here-equal = ap₂ _||_ (fits-two (this a) (this b) x y w) (fits-three (this a) (one (λ k. true)) (this b) x y w)
 
--- a row that is kept, and a row that gains a mask
+-- a test that a mask keeps, and that a row gains
 kept : (old new : Bool) → new ≡ false → old ≡ (old || new)
 kept old new e = sym (ap (λ t. old || t) e ∙ or-false old)
 
-pub row-gains : (masks : List ℕ) (i m x t : ℕ) (new : Bool) → length masks ≡ 64 → i < 64 → (eqb x i && bit m t) ≡ new
-    → bit (getD (gains masks i m) x 0) t ≡ (bit (getD masks x 0) t || new)
-row-gains masks i m x t new long h e = gains-bit masks i m x t (omega arith) ∙ ap (λ n. bit (getD masks x 0) t || n) e
+row-gains : (rows : List ℕ) (i m x t : ℕ) (new : Bool) → length rows ≡ 256 → i < 256 → (eqb x i && bit m t) ≡ new
+    → bit (getD (gains rows i m) x 0) t ≡ (bit (getD rows x 0) t || new)
+row-gains rows i m x t new long h e = gains-bit rows i m x t (omega arith) ∙ ap (λ n. bit (getD rows x 0) t || n) e
 
-pub gains-long : (masks : List ℕ) (i m : ℕ) → length masks ≡ 64 → length (gains masks i m) ≡ 64
-gains-long masks i m long = length-set masks i (bitOr (getD masks i 0) m) ∙ long
+-- a row that gains nothing
+row-kept : (rows : List ℕ) (i m x t : ℕ) → (x ≡ i → ⊥) → bit (getD (gains rows i m) x 0) t ≡ bit (getD rows x 0) t
+row-kept rows i m x t n = ap (λ (row : ℕ). bit row t) (getD-set-other rows i x (bitOr (getD rows i 0) m) 0 n)
 
-module _ (g : Grammar) (left right : List ℕ) (sets : AreSets g left right) (rows : Relations) (long : Rows rows) where
+-- the rows of one relation are told apart by their terminals
+pub row-same : (k a u : ℕ) → eqb (4 * a + k) (4 * u + k) ≡ eqb a u
+row-same k a u = go (ℕ-discrete a u)
+  where
+    go : Dec (a ≡ u) → eqb (4 * a + k) (4 * u + k) ≡ eqb a u
+    go (yes e) = rw (e, eq-eqb u u refl, eq-eqb (4 * u + k) (4 * u + k) refl)
+    go (no n) = let far : 4 * a + k ≡ 4 * u + k → ⊥ = λ e. n (omega arith) in rw (ne-eqb a u n, ne-eqb (4 * a + k) (4 * u + k) far)
+
+gains-long : (rows : List ℕ) (i m : ℕ) → length rows ≡ 256 → length (gains rows i m) ≡ 256
+gains-long rows i m long = length-set rows i (bitOr (getD rows i 0) m) ∙ long
+
+module _ (g : Grammar) (left right : List ℕ) (sets : AreSets g left right) (rows : List ℕ) (long : length rows ≡ 256) where
+  -- row 4u + k gains the terminal v, as relation k says it
+  equal-gains : (now : List ℕ) → length now ≡ 256 → (u v : ℕ) → u < 64 → (a b : ℕ) (new : Bool) → (eqb a u && eqb b v) ≡ new
+      → holds (gains now (4 * u + 2) (2 ^ v)) equal a b ≡ (holds now equal a b || new)
+  equal-gains now l u v h a b new e =
+      row-gains now (4 * u + 2) (2 ^ v) (4 * a + 2) b new l (omega arith) (ap (λ t. t && bit (2 ^ v) b) (row-same 2 a u) ∙ ap (λ t. eqb a u && t) (bit-pow v b) ∙ e)
+
   -- a then b
-  adds-terminals : (u v : ℕ) (w : List Symbol) → u < 64 → Adds (λ k a b. here g k a b (terminal u ∷ terminal v ∷ w)) rows
-      (record { yields = rows .yields; equal = gains (rows .equal) u (2 ^ v); takes = rows .takes })
-  adds-terminals u v w h =
-      record { rows = record { yields = long .yields; equal = gains-long (rows .equal) u (2 ^ v) (long .equal); takes = long .takes }; says = says }
+  adds-terminals : (u v : ℕ) (w : List Symbol) → u < 64 → Adds (λ k a b. here g k a b (terminal u ∷ terminal v ∷ w)) rows (gains rows (4 * u + 2) (2 ^ v))
+  adds-terminals u v w h = record { long = gains-long rows (4 * u + 2) (2 ^ v) long; says = says }
     where
-      says : (k : Relation) (a b : ℕ) → holds (record { yields = rows .yields; equal = gains (rows .equal) u (2 ^ v); takes = rows .takes }) k a b
-          ≡ (holds rows k a b || here g k a b (terminal u ∷ terminal v ∷ w))
+      says : (k : Relation) (a b : ℕ) → holds (gains rows (4 * u + 2) (2 ^ v)) k a b ≡ (holds rows k a b || here g k a b (terminal u ∷ terminal v ∷ w))
       says blank a b = refl
-      says yields a b = kept _ _ (here-yields g a b (terminal u) (terminal v) w ∙ and-false (eqb a u))
-      says equal a b = row-gains (rows .equal) u (2 ^ v) a b _ (long .equal) h
-          (ap (λ t. eqb a u && t) (bit-pow v b) ∙ sym (here-equal g a b (terminal u) (terminal v) w ∙ ap (λ t. (eqb a u && eqb b v) || t) (and-false (eqb a u)) ∙ or-false (eqb a u && eqb b v)))
-      says takes a b = kept _ _ refl
+      says yields a b = row-kept rows (4 * u + 2) (2 ^ v) (4 * a + 1) b (omega arith) ∙ kept _ _ (here-yields g a b (terminal u) (terminal v) w ∙ and-false (eqb a u))
+      says equal a b = equal-gains rows long u v h a b _
+          (sym (here-equal g a b (terminal u) (terminal v) w ∙ ap (λ t. (eqb a u && eqb b v) || t) (and-false (eqb a u)) ∙ or-false (eqb a u && eqb b v)))
+      says takes a b = row-kept rows (4 * u + 2) (2 ^ v) (4 * b + 3) a (omega arith) ∙ kept _ _ refl
 
-  -- a then nonterminal D, and what stands behind it
-  adds-yields : (u d : ℕ) (w : List Symbol) (after : List ℕ) → u < 64 → length after ≡ 64
-      → ((a b : ℕ) → bit (getD after a 0) b ≡ (bit (getD (rows .equal) a 0) b || (eqb a u && fits (this b ∷ []) w)))
-      → Adds (λ k a b. here g k a b (terminal u ∷ nonterminal d ∷ w)) rows
-      (record { yields = gains (rows .yields) u (getD left d 0); equal = after; takes = rows .takes })
-  adds-yields u d w after h l e =
-      record { rows = record { yields = gains-long (rows .yields) u (getD left d 0) (long .yields); equal = l; takes = long .takes }; says = says }
-    where
-      says : (k : Relation) (a b : ℕ) → holds (record { yields = gains (rows .yields) u (getD left d 0); equal = after; takes = rows .takes }) k a b
-          ≡ (holds rows k a b || here g k a b (terminal u ∷ nonterminal d ∷ w))
-      says blank a b = refl
-      says yields a b = row-gains (rows .yields) u (getD left d 0) a b _ (long .yields) h
-          (ap (λ t. eqb a u && t) (sets .lefts d b) ∙ sym (here-yields g a b (terminal u) (nonterminal d) w))
-      says equal a b = e a b ∙ ap (λ t. bit (getD (rows .equal) a 0) b || t)
-          (sym (here-equal g a b (terminal u) (nonterminal d) w ∙ ap (λ t. t || (eqb a u && fits (this b ∷ []) w)) (and-false (eqb a u))))
-      says takes a b = kept _ _ refl
+  -- a then nonterminal D
+  module _ (u d : ℕ) (h : u < 64) where
+    abbrev yielded : List ℕ
+    yielded = gains rows (4 * u + 1) (getD left d 0)
+
+    yielded-long : length yielded ≡ 256
+    yielded-long = gains-long rows (4 * u + 1) (getD left d 0) long
+
+    yields-gains : (w : List Symbol) (a b : ℕ) → holds yielded yields a b ≡ (holds rows yields a b || here g yields a b (terminal u ∷ nonterminal d ∷ w))
+    yields-gains w a b = row-gains rows (4 * u + 1) (getD left d 0) (4 * a + 1) b _ long (omega arith)
+        (ap (λ t. t && bit (getD left d 0) b) (row-same 1 a u) ∙ ap (λ t. eqb a u && t) (sets .lefts d b) ∙ sym (here-yields g a b (terminal u) (nonterminal d) w))
+
+    -- equal stays, and so does takes
+    equal-kept : (a b : ℕ) → holds yielded equal a b ≡ holds rows equal a b
+    equal-kept a b = row-kept rows (4 * u + 1) (getD left d 0) (4 * a + 2) b (omega arith)
+
+    takes-kept : (a b : ℕ) → holds yielded takes a b ≡ holds rows takes a b
+    takes-kept a b = row-kept rows (4 * u + 1) (getD left d 0) (4 * b + 3) a (omega arith)
+
+    -- what a then D, and what stands behind it, show of equal
+    here-around : (w : List Symbol) (a b : ℕ) → here g equal a b (terminal u ∷ nonterminal d ∷ w) ≡ (eqb a u && fits (this b ∷ []) w)
+    here-around w a b = here-equal g a b (terminal u) (nonterminal d) w ∙ ap (λ t. t || (eqb a u && fits (this b ∷ []) w)) (and-false (eqb a u))
+
+    adds-last : Adds (λ k a b. here g k a b (terminal u ∷ nonterminal d ∷ [])) rows yielded
+    adds-last = record { long = yielded-long; says = says }
+      where
+        says : (k : Relation) (a b : ℕ) → holds yielded k a b ≡ (holds rows k a b || here g k a b (terminal u ∷ nonterminal d ∷ []))
+        says blank a b = refl
+        says yields a b = yields-gains [] a b
+        says equal a b = equal-kept a b ∙ kept _ _ (here-around [] a b ∙ and-false (eqb a u))
+        says takes a b = takes-kept a b ∙ kept _ _ refl
+
+    -- then b
+    adds-around : (v : ℕ) (w : List Symbol) → Adds (λ k a b. here g k a b (terminal u ∷ nonterminal d ∷ terminal v ∷ w)) rows (gains yielded (4 * u + 2) (2 ^ v))
+    adds-around v w = record { long = gains-long yielded (4 * u + 2) (2 ^ v) yielded-long; says = says }
+      where
+        says : (k : Relation) (a b : ℕ) → holds (gains yielded (4 * u + 2) (2 ^ v)) k a b
+            ≡ (holds rows k a b || here g k a b (terminal u ∷ nonterminal d ∷ terminal v ∷ w))
+        says blank a b = refl
+        says yields a b = row-kept yielded (4 * u + 2) (2 ^ v) (4 * a + 1) b (omega arith) ∙ yields-gains (terminal v ∷ w) a b
+        says equal a b =
+            equal-gains yielded yielded-long u v h a b _ (sym (here-around (terminal v ∷ w) a b ∙ ap (λ t. eqb a u && t) (fits-one (this b) (terminal v) w)))
+            ∙ ap (λ t. t || here g equal a b (terminal u ∷ nonterminal d ∷ terminal v ∷ w)) (equal-kept a b)
+        says takes a b = row-kept yielded (4 * u + 2) (2 ^ v) (4 * b + 3) a (omega arith) ∙ takes-kept a b ∙ kept _ _ refl
 
   -- nonterminal D then b
-  adds-takes : (d v : ℕ) (w : List Symbol) → v < 64 → Adds (λ k a b. here g k a b (nonterminal d ∷ terminal v ∷ w)) rows
-      (record { yields = rows .yields; equal = rows .equal; takes = gains (rows .takes) v (getD right d 0) })
-  adds-takes d v w h =
-      record { rows = record { yields = long .yields; equal = long .equal; takes = gains-long (rows .takes) v (getD right d 0) (long .takes) }; says = says }
+  adds-takes : (d v : ℕ) (w : List Symbol) → v < 64 → Adds (λ k a b. here g k a b (nonterminal d ∷ terminal v ∷ w)) rows (gains rows (4 * v + 3) (getD right d 0))
+  adds-takes d v w h = record { long = gains-long rows (4 * v + 3) (getD right d 0) long; says = says }
     where
-      says : (k : Relation) (a b : ℕ) → holds (record { yields = rows .yields; equal = rows .equal; takes = gains (rows .takes) v (getD right d 0) }) k a b
-          ≡ (holds rows k a b || here g k a b (nonterminal d ∷ terminal v ∷ w))
+      says : (k : Relation) (a b : ℕ) → holds (gains rows (4 * v + 3) (getD right d 0)) k a b ≡ (holds rows k a b || here g k a b (nonterminal d ∷ terminal v ∷ w))
       says blank a b = refl
-      says yields a b = kept _ _ refl
-      says equal a b = kept _ _ refl
-      says takes a b = row-gains (rows .takes) v (getD right d 0) b a _ (long .takes) h
-          (ap (λ t. eqb b v && t) (sets .rights d a) ∙ and-comm (eqb b v) (leftMember (mirrored g) d a) ∙ sym (here-takes g a b (nonterminal d) (terminal v) w))
+      says yields a b = row-kept rows (4 * v + 3) (getD right d 0) (4 * a + 1) b (omega arith) ∙ kept _ _ refl
+      says equal a b = row-kept rows (4 * v + 3) (getD right d 0) (4 * a + 2) b (omega arith) ∙ kept _ _ refl
+      says takes a b = row-gains rows (4 * v + 3) (getD right d 0) (4 * b + 3) a _ long (omega arith)
+          (ap (λ t. t && bit (getD right d 0) a) (row-same 3 b v) ∙ ap (λ t. eqb b v && t) (sets .rights d a)
+          ∙ and-comm (eqb b v) (leftMember (mirrored g) d a) ∙ sym (here-takes g a b (nonterminal d) (terminal v) w))
 
-  pub pair-adds : {ws : List ℕ} → Neighbours ws
-      → Adds (λ k a b. here g k a b (map symbolOf ws)) rows (pairShown left right (getD ws 0 0) (getD ws 1 0) (getD ws 2 0) rows)
-  pair-adds (terminals {a = u} {b = v} {ws = ws} h l) =
-      rw (is-terminal u (omega arith), is-terminal v (omega arith), lt-leb 256 u (omega arith), lt-ltb v 256 (omega arith)) (adds-terminals u v (map symbolOf ws) h)
-  pair-adds (before-last {a = u} {d = d} h l n) =
-      rw (is-terminal u (omega arith), is-nonterminal d l, lt-leb 256 u (omega arith), le-ltb d 256 l)
-      (adds-yields u (d - 256) [] (rows .equal) h (long .equal) (λ a b. kept _ _ (and-false (eqb a u))))
-  pair-adds (around {a = u} {d = d} {b = v} {ws = ws} h l n p q) =
-      let z : v ≡ 0 → ⊥ = omega arith in
-      rw (is-terminal u (omega arith), is-nonterminal d l, is-terminal v (omega arith), lt-leb 256 u (omega arith), le-ltb d 256 l, ne-eqb v 0 z)
-      (adds-yields u (d - 256) (terminal v ∷ map symbolOf ws) (gains (rows .equal) u (2 ^ v)) h (gains-long (rows .equal) u (2 ^ v) (long .equal))
-      (λ a b. row-gains (rows .equal) u (2 ^ v) a b _ (long .equal) h (ap (λ t. eqb a u && t) (bit-pow v b ∙ sym (fits-one (this b) (terminal v) (map symbolOf ws))))))
-  pair-adds (after-first {d = d} {b = v} {ws = ws} l n q) =
+  -- two neighbours; where the second is a nonterminal nothing stands behind it
+  pub pair-adds : {ws : List ℕ} → Neighbours ws → (256 ≤ getD ws 1 0 → length ws ≤ 2)
+      → Adds (λ k a b. here g k a b (map symbolOf ws)) rows (pairShown left right (getD ws 0 0) (getD ws 1 0) rows)
+  pair-adds (terminals {a = u} {b = v} {ws = ws} h l) alone =
+      rw (is-terminal u (omega arith), is-terminal v (omega arith), lt-leb 256 u (omega arith), lt-leb 256 v (omega arith)) (adds-terminals u v (map symbolOf ws) h)
+  pair-adds (before-last {a = u} {d = d} h l n) alone =
+      rw (is-terminal u (omega arith), is-nonterminal d l, lt-leb 256 u (omega arith), le-leb 256 d l) (adds-last u (d - 256) h)
+  pair-adds (around {a = u} {d = d} {b = v} {ws = ws} h l n p q) alone = absurd (omega (arith, alone l))
+  pair-adds (after-first {d = d} {b = v} {ws = ws} l n q) alone =
       rw (is-nonterminal d l, is-terminal v (omega arith), le-leb 256 d l) (adds-takes (d - 256) v (map symbolOf ws) q)
+
+  -- a, one nonterminal, and something behind it
+  pub around-adds : {ws : List ℕ} → Neighbours ws → 256 ≤ getD ws 1 0 → 2 < length ws
+      → Adds (λ k a b. here g k a b (map symbolOf ws)) rows (pairShown left right (getD ws 0 0) (getD ws 2 0) (pairShown left right (getD ws 0 0) (getD ws 1 0) rows))
+  around-adds (terminals h l) m k = absurd (omega arith)
+  around-adds (before-last h l n) m k = absurd (omega arith)
+  around-adds (around {a = u} {d = d} {b = v} {ws = ws} h l n p q) m k =
+      rw (is-terminal u (omega arith), is-nonterminal d l, is-terminal v (omega arith), lt-leb 256 u (omega arith), le-leb 256 d l, lt-leb 256 v (omega arith))
+      (adds-around u (d - 256) h v (map symbolOf ws))
+  around-adds (after-first l n q) m k = absurd (omega arith)
 
 -- ---- one right side
 
@@ -220,12 +276,12 @@ anywhere test [] = test []
 anywhere test (x ∷ w) = test (x ∷ w) || anywhere test w
 
 -- at the place where `rest` stands: the rows, with what is still to come, say what they said before and what the whole string shows
-pub record Walked (g : Grammar) (whole rest : List Symbol) (before after : Relations) : Type 0 where
-  pub rows : Rows after
+pub record Walked (g : Grammar) (whole rest : List Symbol) (before after : List ℕ) : Type 0 where
+  pub long : length after ≡ 256
   pub says : (k : Relation) (a b : ℕ) → (holds after k a b || anywhere (here g k a b) rest) ≡ (holds before k a b || anywhere (here g k a b) whole)
 
-pub walked-none : (g : Grammar) (whole : List Symbol) (rows : Relations) → Rows rows → Walked g whole whole rows rows
-walked-none g whole rows long = record { rows = long; says = λ k a b. refl }
+pub walked-none : (g : Grammar) (whole : List Symbol) (rows : List ℕ) → length rows ≡ 256 → Walked g whole whole rows rows
+walked-none g whole rows long = record { long = long; says = λ k a b. refl }
 
 -- where at most one symbol is left nothing more is shown
 none-left : (g : Grammar) (k : Relation) (a b : ℕ) (w : List Symbol) → length w ≤ 1 → anywhere (here g k a b) w ≡ false
@@ -242,17 +298,17 @@ none-left g takes a b (x ∷ []) h =
     ap (λ t. t || false) (fits-more (one (λ d. leftMember (mirrored g) d a)) (this b) [] x [] ∙ and-false (passes (one (λ d. leftMember (mirrored g) d a)) x))
 none-left g k a b (x ∷ y ∷ w) h = absurd (omega arith)
 
-module _ {g : Grammar} {whole : List Symbol} {before rows : Relations} where
-  pub walked-step : {x : Symbol} {w : List Symbol} {after : Relations} → Walked g whole (x ∷ w) before rows → Adds (λ k a b. here g k a b (x ∷ w)) rows after
+module _ {g : Grammar} {whole : List Symbol} {before rows : List ℕ} where
+  pub walked-step : {x : Symbol} {w : List Symbol} {after : List ℕ} → Walked g whole (x ∷ w) before rows → Adds (λ k a b. here g k a b (x ∷ w)) rows after
       → Walked g whole w before after
   walked-step {x} {w} walked adds = record {
-    rows = adds .rows;
+    long = adds .long;
     says = λ k a b.
         ap (λ t. t || anywhere (here g k a b) w) (adds .says k a b) ∙ or-assoc (holds rows k a b) (here g k a b (x ∷ w)) (anywhere (here g k a b) w) ∙ walked .says k a b;
   }
 
   pub walked-end : {rest : List Symbol} → Walked g whole rest before rows → length rest ≤ 1 → Adds (λ k a b. anywhere (here g k a b) whole) before rows
   walked-end {rest} walked h = record {
-    rows = walked .rows;
+    long = walked .long;
     says = λ k a b. kept (holds rows k a b) (anywhere (here g k a b) rest) (none-left g k a b rest h) ∙ walked .says k a b;
   }

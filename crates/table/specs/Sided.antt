@@ -3,20 +3,20 @@
 -- right sides from their start or from their end.
 -- Rests on language's Words, Mirror, WordsInRange and Checks.
 --
--- Main definitions: turned, sided, RulesOf. Main statements: part-at, from-start, from-the-end, none-there, passed-laid, side-rules.
+-- Main definitions: turned, sided, RulesOf. Main statements: part-at, from-start, from-the-end, side-length, passed-laid, side-rules.
 use mathlib.Core.Path.{_≡_, refl, sym, ap, _∙_}
 use mathlib.Core.Bool.{Bool, true, false}
 use mathlib.Core.List.{List, [], _∷_, map, reverse, reverseAux, List·Memᴰ, reverseAux-eq, reverse-reverse}
 use Prim.Native.Nat.{ℕ, suc, _+_, _-_, _≤_, _<_}
 use native.Mathlib.Omega.{arith}
 use native.Mathlib.Decide.{decLt}
-use lib.ListN.{length, getD, take, length-reverse, length-map, List·getD-eq-default}
+use lib.ListN.{length, getD, take, length-reverse, length-map}
 use lib.Seq.{slice, length-slice, getD-at, getD-take, getD-drop}
 use Rattle.laws.specs.Tests.{upTo-below, below-upTo}
 use Rattle.laws.specs.Least.{Nowhere, finds-none}
 use Rattle.language.specs.Symbols.{Symbol, symbolOf}
 use Rattle.language.specs.Grammar.{Grammar, Rule, ruleAt, leftSide, inPlay, Has, mirroredRule, mirrored}
-use Rattle.language.specs.Words.{word, countR, entry, rightWords, grammarOf}
+use Rattle.language.specs.Words.{word, countR, entry, bodyEnd, rightWords, grammarOf}
 use Rattle.language.specs.CheckHead.{head-finds}
 use Rattle.language.specs.CheckContents.{contents-finds}
 use Rattle.language.specs.CheckForm.{BadForm, form-adjacent, form-bare}
@@ -66,11 +66,6 @@ module _ (words : List ℕ) (start end i : ℕ) (fits : end ≤ length words) wh
       let there : start + (length (slice start end words) - 1 - i) ≡ end - 1 - i = omega arith in
       rw e (reversed-at (slice start end words) [] i (omega arith) ∙ part-at words start end (length (slice start end words) - 1 - i) (omega arith) ∙ rw there)
 
-  pub none-there : (from-end : Bool) → end - start ≤ i → getD (turned from-end (slice start end words)) i 0 ≡ 0
-  none-there false h = List·getD-eq-default (slice start end words) 0 (omega (arith, length-slice start end words fits))
-  none-there true h =
-      List·getD-eq-default (reverse (slice start end words)) 0 (omega (arith, length-reverse (slice start end words), length-slice start end words fits))
-
 map-reverse : (l : List ℕ) → map symbolOf (reverse l) ≡ reverse (map symbolOf l)
 map-reverse l = go l []
   where
@@ -97,6 +92,10 @@ module _ (words : List ℕ) where
 
   abbrev pub sideWords : Bool → ℕ → List ℕ
   sideWords from-end r = turned from-end (rightWords words r)
+
+  pub side-length : (from-end : Bool) (r : ℕ) → bodyEnd words r ≤ length words → length (sideWords from-end r) ≡ bodyEnd words r - suc (entry words r)
+  side-length false r fits = length-slice (suc (entry words r)) (bodyEnd words r) words fits
+  side-length true r fits = length-reverse (rightWords words r) ∙ length-slice (suc (entry words r)) (bodyEnd words r) words fits
 
   module _ (passed : Passed words) where
     -- checked words have their bodies in rule order

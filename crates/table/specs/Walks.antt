@@ -3,7 +3,7 @@
 -- then b".
 -- Rests on Shown, Sided and Edges.
 --
--- Main statements: pair-at (what code asks of a pair), walk-step, walk-end (what the walk has shown).
+-- Main statements: pair-at, around-at (what code asks of a pair), walk-step, walk-around, walk-end (what the walk has shown).
 use mathlib.Core.Path.{_≡_, sym, ap, _∙_, subst}
 use mathlib.Core.Bool.{false}
 use mathlib.Core.List.{List, _∷_}
@@ -16,14 +16,13 @@ use Rattle.language.specs.Symbols.{Symbol, symbolOf, Relation}
 use Rattle.language.specs.Grammar.{ruleAt}
 use Rattle.language.specs.Words.{word, countR, entry, bodyEnd, rightWords, grammarOf}
 use Rattle.language.specs.Checks.{Passed}
-use Rattle.table.specs.declared.relations.Relations.{Relations}
 use Rattle.table.specs.Laid.{within}
 use Rattle.table.specs.Rules.{right-of}
 use Rattle.table.specs.Forms.{symbolsIn}
 use Rattle.table.specs.Sided.{part-at, passed-laid, side-rules}
 use Rattle.table.specs.Edges.{right-side}
 use Rattle.table.specs.SetPasses.{AreSets}
-use Rattle.table.specs.Shown.{Adds, here, anywhere, pairShown, Neighbours, neighbours, Paired, paired, pair-adds, Walked, walked-step, walked-end}
+use Rattle.table.specs.Shown.{Adds, here, anywhere, pairShown, Neighbours, neighbours, Paired, paired, paired-around, pair-adds, around-adds, Walked, walked-step, walked-end}
 
 module _ (words : List ℕ) (passed : Passed words) (r : ℕ) (h : r < countR words) where
   abbrev start : ℕ
@@ -49,25 +48,49 @@ module _ (words : List ℕ) (passed : Passed words) (r : ℕ) (h : r < countR wo
     second : getD (slice p end words) 1 0 ≡ word words (p + 1)
     second = part-at words p end 1 (omega arith)
 
-    pub pair-at : Paired (word words p) (word words (p + 1)) (getD (slice p end words) 2 0)
+    third : p + 2 < end → getD (slice p end words) 2 0 ≡ word words (p + 2)
+    third m = part-at words p end 2 (omega arith)
+
+    pub pair-at : Paired (word words p) (word words (p + 1))
     pair-at = rw (first, second) at (paired (neighbours-at p l k))
+
+    pub around-at : 256 ≤ word words (p + 1) → p + 2 < end → Paired (word words p) (word words (p + 2))
+    around-at n m =
+        let there : 2 < length (slice p end words) = omega (arith, length-slice p end words fits) in
+        rw (first, third m) at (paired-around (neighbours-at p l k) (rw second n) there)
 
     front : symbolsIn words p end ≡ symbolOf (word words p) ∷ symbolsIn words (p + 1) end
     front = rw (slice-cons p end words 0 (omega arith) fits, add-one p)
 
-    -- what the pair at p shows is added, and the walk goes on behind p
-    module _ (left right : List ℕ) (sets : AreSets (grammarOf words) left right) {whole : List Symbol} {before rows after : Relations} where
-      pub walk-step : Walked (grammarOf words) whole (symbolsIn words p end) before rows
-          → after ≡ pairShown left right (word words p) (word words (p + 1)) (getD (slice p end words) 2 0) rows
+    module _ (left right : List ℕ) (sets : AreSets (grammarOf words) left right) {whole : List Symbol} {before rows after : List ℕ} where
+      -- what is shown at p is added, and the walk goes on behind p
+      step : Walked (grammarOf words) whole (symbolsIn words p end) before rows
+          → Adds (λ (m : Relation) (a b : ℕ). here (grammarOf words) m a b (symbolsIn words p end)) rows after
           → Walked (grammarOf words) whole (symbolsIn words (p + 1) end) before after
-      walk-step walked e =
-          let adds = pair-adds (grammarOf words) left right sets rows (walked .rows) (neighbours-at p l k) in
+      step walked adds =
           walked-step (subst (λ (w : List Symbol). Walked (grammarOf words) whole w before rows) front walked)
-          (subst (λ (w : List Symbol). Adds (λ (m : Relation) (a b : ℕ). here (grammarOf words) m a b w) rows after) front
-          (rw (e, ← first, ← second) adds))
+          (subst (λ (w : List Symbol). Adds (λ (m : Relation) (a b : ℕ). here (grammarOf words) m a b w) rows after) front adds)
+
+      -- the neighbours at p, where no two terminals stand around the second
+      pub walk-step : Walked (grammarOf words) whole (symbolsIn words p end) before rows → (256 ≤ word words (p + 1) → end ≤ p + 2)
+          → after ≡ pairShown left right (word words p) (word words (p + 1)) rows
+          → Walked (grammarOf words) whole (symbolsIn words (p + 1) end) before after
+      walk-step walked alone e =
+          let long = length-slice p end words fits in
+          step walked (rw (e, ← first, ← second)
+          (pair-adds (grammarOf words) left right sets rows (walked .long) (neighbours-at p l k) (λ n. omega (arith, alone (rw second at n)))))
+
+      -- and where they do
+      pub walk-around : Walked (grammarOf words) whole (symbolsIn words p end) before rows → 256 ≤ word words (p + 1) → (m : p + 2 < end)
+          → after ≡ pairShown left right (word words p) (word words (p + 2)) (pairShown left right (word words p) (word words (p + 1)) rows)
+          → Walked (grammarOf words) whole (symbolsIn words (p + 1) end) before after
+      walk-around walked n m e =
+          let there : 2 < length (slice p end words) = omega (arith, length-slice p end words fits) in
+          step walked (rw (e, ← first, ← second, ← third m)
+          (around-adds (grammarOf words) left right sets rows (walked .long) (neighbours-at p l k) (rw second n) there))
 
   -- at the end the whole right side is shown
-  pub walk-end : (p : ℕ) {before rows : Relations} → end ≤ p + 1 → Walked (grammarOf words) (symbolsIn words start end) (symbolsIn words p end) before rows
+  pub walk-end : (p : ℕ) {before rows : List ℕ} → end ≤ p + 1 → Walked (grammarOf words) (symbolsIn words start end) (symbolsIn words p end) before rows
       → Adds (λ k a b. anywhere (here (grammarOf words) k a b) (ruleAt (grammarOf words) r .right)) before rows
   walk-end p {before} {rows} l walked =
       subst (λ (w : List Symbol). Adds (λ (m : Relation) (a b : ℕ). anywhere (here (grammarOf words) m a b) w) before rows) (sym (right-of words r h))

@@ -6,7 +6,6 @@ mod words;
 use language::Answer;
 use language::Refusal;
 use language::SetAnswer;
-use words::Found;
 ghost use mathlib.Core.Path.{_≡_};
 ghost use lib.ListN.{length};
 ghost use Rattle.language.specs.Words.{grammarOf};
@@ -18,32 +17,30 @@ ghost use Rattle.table.specs.Sided.{sided};
 pub fn check_symbols(words: &[u16]) -> Answer
     ensures { λ r. ⌜ r ≡ checkSymbols (now (words .entry)) ⌝ }
 {
-    if let Found::At(word) = words::head(words) {
-        return Answer::Refused(Refusal::Head(word));
+    let head = words::head(words);
+    if let Answer::Refused(_) = head {
+        return head;
     }
-    if let Found::At(entry) = words::contents(words) {
-        return Answer::Refused(Refusal::Contents(entry));
+    let contents = words::contents(words);
+    if let Answer::Refused(_) = contents {
+        return contents;
     }
-    if let Found::At(place) = words::symbols(words) {
-        return Answer::Refused(Refusal::Symbol(place));
-    }
-    Answer::Done
+    words::symbols(words)
 }
 
 // Checks 1 to 5: after 1 to 3 the form of each right side, and that no two rules have the same.
 pub fn check_words(words: &[u16]) -> Answer
     ensures { λ r. ⌜ r ≡ checkWords (now (words .entry)) ⌝ }
 {
-    if let Answer::Refused(refusal) = check_symbols(words) {
-        return Answer::Refused(refusal);
+    let symbols = check_symbols(words);
+    if let Answer::Refused(_) = symbols {
+        return symbols;
     }
-    if let Found::At(rule) = words::forms(words) {
-        return Answer::Refused(Refusal::Form(rule));
+    let forms = words::forms(words);
+    if let Answer::Refused(_) = forms {
+        return forms;
     }
-    if let Found::At(rule) = words::twins(words) {
-        return Answer::Refused(Refusal::Twin(rule));
-    }
-    Answer::Done
+    words::twins(words)
 }
 
 // Checks 1 to 6 and then 11, and writes the matrix: 4,096 bytes, anything beyond is untouched.
@@ -51,17 +48,15 @@ pub fn load(words: &[u16], matrix: &mut [u8]) -> Answer
     ensures answer { λ r. ⌜ r ≡ loadAnswer (now (words .entry)) (length (now (matrix .entry))) ⌝ }
     ensures bytes { λ r. ⌜ now (matrix .exit) ≡ loadBytes (now (words .entry)) (now (matrix .entry)) ⌝ }
 {
-    if let Answer::Refused(refusal) = check_words(words) {
-        return Answer::Refused(refusal);
+    let words_checked = check_words(words);
+    if let Answer::Refused(_) = words_checked {
+        return words_checked;
     }
-    let relations = relations::relations_of(words);
-    if let Found::At(pair) = relations::conflict(relations) {
-        return Answer::Refused(Refusal::Conflict(pair));
+    let table = relations::table_of(words);
+    let table_checked = relations::check_table(&table, matrix.len());
+    if let Answer::Refused(_) = table_checked {
+        return table_checked;
     }
-    if matrix.len() < 4096 {
-        return Answer::Refused(Refusal::NoRoom(4096));
-    }
-    let table = relations::table_of(relations);
     relations::copy_out(matrix, &table);
     Answer::Done
 }

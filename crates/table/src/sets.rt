@@ -2,64 +2,39 @@
 // The right sets mirror the left sets: everything here looks at right sides from their start, or from their end.
 use crate::words;
 ghost use mathlib.Core.Path.{_≡_};
-ghost use Prim.Native.Nat.{_≤_, _<_};
+ghost use Prim.Native.Nat.{_+_, _<_};
 ghost use lib.ListN.{length, getD};
-ghost use lib.Seq.{slice};
-ghost use Rattle.language.specs.Words.{countR, grammarOf};
+ghost use Rattle.language.specs.Words.{countR, entry, bodyEnd, grammarOf};
 ghost use Rattle.language.specs.Checks.{Passed};
 ghost use Rattle.table.specs.Laid.{Laid};
-ghost use Rattle.table.specs.Sided.{turned, sided, sideWords};
-ghost use Rattle.table.specs.Edges.{Edged};
+ghost use Rattle.table.specs.Sided.{sided, sideWords};
 ghost use Rattle.table.specs.SetPasses.{brought, gained, Sound, Members, Changed, Grown};
 
-// The two outermost words of a right side seen from one side, 0 where there is none.
-struct Edge {
-    near: usize,
-    next: usize,
-}
-
-// Word i, counted from that side, of the words from `start` to `end`; 0 where there is none.
-pub fn word_from(words: &[u16], start: usize, end: usize, i: usize, from_end: bool) -> usize
-    requires { ⌜ (start ≤ end) × (end ≤ length (now words)) ⌝ }
-    ensures { λ w. ⌜ w ≡ getD (turned «from_end» (slice start end (now (words .entry)))) i 0 ⌝ }
+// Word i of rule r's right side, counted from that side.
+fn word_from(words: &[u16], r: usize, i: usize, from_end: bool) -> usize
+    requires { ⌜ Laid (now words) × (r < countR (now words)) × (entry (now words) r + 1 + i < bodyEnd (now words) r) ⌝ }
+    ensures { λ w. ⌜ w ≡ getD (sideWords (now (words .entry)) «from_end» r) i 0 ⌝ }
 {
-    if end - start <= i {
-        return 0;
-    }
     if from_end {
-        return words::word(words, end - 1 - i);
+        return words::word(words, words::body_end(words, r) - 1 - i);
     }
-    words::word(words, start + i)
+    words::word(words, words::entry(words, r) + 1 + i)
 }
 
-// The edge of rule r's right side.
-fn edge_of(words: &[u16], r: usize, from_end: bool) -> Edge
-    requires { ⌜ Laid (now words) × (r < countR (now words)) ⌝ }
-    ensures { λ e. ⌜ (e .near ≡ getD (sideWords (now (words .entry)) «from_end» r) 0 0) × (e .next ≡ getD (sideWords (now (words .entry)) «from_end» r) 1 0) ⌝ }
-{
-    let start = words::entry(words, r) + 1;
-    let end = words::body_end(words, r);
-    Edge {
-        near: word_from(words, start, end, 0, from_end),
-        next: word_from(words, start, end, 1, from_end),
-    }
-}
-
-// What a right side with this edge brings to the set of its left side: its outermost terminal, and all of the set of a
+// What rule r brings to the set of its left side, given the sets so far: its outermost terminal, and all of the set of a
 // nonterminal before that.
-fn brought(masks: &[u64; 64], edge: Edge) -> u64
-    requires { ⌜ Edged (edge .near) (edge .next) ⌝ }
-    ensures { λ r. ⌜ r ≡ brought (now (masks .entry)) (edge .near) (edge .next) ⌝ }
+fn brought(words: &[u16], masks: &[u64; 64], r: usize, from_end: bool) -> u64
+    requires { ⌜ Passed (now words) × (r < countR (now words)) ⌝ }
+    ensures { λ m. ⌜ m ≡ brought (now (masks .entry)) (getD (sideWords (now (words .entry)) «from_end» r) 0 0) (getD (sideWords (now (words .entry)) «from_end» r) 1 0) ⌝ }
 {
-    let near = edge.near;
-    let next = edge.next;
+    let near = word_from(words, r, 0, from_end);
     if near < 256 {
         return 1u64 << near;
     }
-    1u64 << next | masks[near - 256]
+    1u64 << word_from(words, r, 1, from_end) | masks[near - 256]
 }
 
-// Rule r brings to the set of its left side what it can, given the sets so far: whether that set has changed.
+// Rule r brings what it can to the set of its left side: whether that set has changed.
 fn gain(words: &[u16], masks: &mut [u64; 64], r: usize, from_end: bool) -> bool
     requires { ⌜ Passed (now words) × (r < countR (now words)) × (length (now masks) ≡ 64) ⌝ }
     ensures is { λ b. ⌜ now (masks .exit) ≡ gained (now (words .entry)) «from_end» (now (masks .entry)) r ⌝ }
@@ -67,7 +42,7 @@ fn gain(words: &[u16], masks: &mut [u64; 64], r: usize, from_end: bool) -> bool
 {
     let left = words::word(words, words::entry(words, r));
     let old = masks[left];
-    let new = old | brought(masks, edge_of(words, r, from_end));
+    let new = old | brought(words, masks, r, from_end);
     masks[left] = new;
     new != old
 }

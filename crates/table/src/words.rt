@@ -1,25 +1,22 @@
 // Checks 1 to 5 of the grammar words, each over the whole grammar. Document 01, "The grammar words" and "Refusal numbers".
 // For each check a test of one candidate (a head word, an entry, a word place, a rule), and a search for the first that fails.
+use language::Answer;
+use language::Refusal;
 ghost use mathlib.Core.Path.{_≡_};
+ghost use mathlib.Core.List.{[], _∷_};
 ghost use Prim.Native.Nat.{_+_, _≤_, _<_};
 ghost use lib.Dec.{ltb};
 ghost use lib.ListN.{length};
 ghost use Rattle.language.specs.Words.{word, countR, entry, bodyEnd, outside, grammarOf};
+ghost use Rattle.language.specs.Stages.{checked};
 ghost use Rattle.language.specs.CheckHead.{headLimit, badHead, headStage};
 ghost use Rattle.language.specs.CheckContents.{wrongEntry, badContents, contentsStage};
-ghost use Rattle.language.specs.CheckSymbols.{noSymbol, wrongIn, symbolStage};
+ghost use Rattle.language.specs.CheckSymbols.{wrongIn, symbolStage};
 ghost use Rattle.language.specs.CheckForm.{adjacent, noTerminal, badForm, formStage};
 ghost use Rattle.language.specs.CheckTwins.{badTwin, twinStage};
-ghost use Rattle.table.specs.Search.{foundOf};
 ghost use Rattle.table.specs.Laid.{Headed, Laid};
 ghost use Rattle.table.specs.Places.{Lies};
-ghost use Rattle.table.specs.Forms.{symbolsIn, bothNonterminals};
-
-// What a check finds: the first value at which it fails, or that it fails nowhere.
-pub enum Found {
-    At(u32),
-    Nowhere,
-}
+ghost use Rattle.table.specs.Forms.{symbolsIn};
 
 // The word at place i.
 pub fn word(words: &[u16], i: usize) -> usize
@@ -72,17 +69,17 @@ fn bad_head(words: &[u16], i: usize) -> bool
 }
 
 // The first of the 4 head words that is absent or out of its range.
-pub fn head(words: &[u16]) -> Found
-    ensures { λ r. ⌜ r ≡ foundOf (headStage .failsAt (now (words .entry))) ⌝ }
+pub fn head(words: &[u16]) -> Answer
+    ensures { λ r. ⌜ r ≡ checked (headStage ∷ []) (now (words .entry)) ⌝ }
 {
     let mut i: usize = 0;
     while i < 4 {
         if bad_head(words, i) {
-            return Found::At(i as u32);
+            return Answer::Refused(Refusal::Head(i as u32));
         }
         i += 1;
     }
-    Found::Nowhere
+    Answer::Done
 }
 
 // ---- 2 CONTENTS
@@ -115,19 +112,19 @@ fn bad_contents(words: &[u16], r: usize) -> bool
 }
 
 // The first entry that is absent or wrong, or R where the last body is.
-pub fn contents(words: &[u16]) -> Found
+pub fn contents(words: &[u16]) -> Answer
     requires { ⌜ Headed (now words) ⌝ }
-    ensures { λ r. ⌜ r ≡ foundOf (contentsStage .failsAt (now (words .entry))) ⌝ }
+    ensures { λ r. ⌜ r ≡ checked (contentsStage ∷ []) (now (words .entry)) ⌝ }
 {
     let rules = word(words, 3);
     let mut r: usize = 0;
     while r <= rules {
         if bad_contents(words, r) {
-            return Found::At(r as u32);
+            return Answer::Refused(Refusal::Contents(r as u32));
         }
         r += 1;
     }
-    Found::Nowhere
+    Answer::Done
 }
 
 // ---- 3 SYMBOL
@@ -143,26 +140,7 @@ pub fn body_end(words: &[u16], r: usize) -> usize
     words.len()
 }
 
-// The rule in whose body place p lies, where p is in the body of rule r or just past it.
-fn body_of(words: &[u16], p: usize, r: usize) -> usize
-    requires { ⌜ Laid (now words) × (p < length (now words)) × (r < countR (now words)) × (entry (now words) r ≤ p) × (p ≤ bodyEnd (now words) r) ⌝ }
-    ensures { λ q. ⌜ Lies (now (words .entry)) p q ⌝ }
-{
-    if p < body_end(words, r) {
-        return r;
-    }
-    r + 1
-}
-
-// w is neither a terminal 1..T nor a nonterminal 256 + k with k below N.
-fn no_symbol(words: &[u16], w: usize) -> bool
-    requires { ⌜ Laid (now words) ⌝ }
-    ensures { λ b. ⌜ b ≡ noSymbol (now (words .entry)) w ⌝ }
-{
-    outside(1, word(words, 0), w) & outside(256, 255 + word(words, 1), w)
-}
-
-// The word at place p of rule r's body is no nonterminal (left) or no symbol.
+// The word at place p of rule r's body is no nonterminal (left) or no symbol, neither a terminal 1..T nor 256 + k with k below N.
 fn wrong_in(words: &[u16], p: usize, r: usize) -> bool
     requires { ⌜ Laid (now words) × Lies (now words) p r ⌝ }
     ensures { λ b. ⌜ b ≡ wrongIn (now (words .entry)) p r ⌝ }
@@ -171,34 +149,30 @@ fn wrong_in(words: &[u16], p: usize, r: usize) -> bool
     if p == entry(words, r) {
         return word(words, 1) <= w;
     }
-    no_symbol(words, w)
+    outside(1, word(words, 0), w) & outside(256, 255 + word(words, 1), w)
 }
 
 // The first word place of the bodies whose word is no nonterminal (left) or no symbol.
-pub fn symbols(words: &[u16]) -> Found
+pub fn symbols(words: &[u16]) -> Answer
     requires { ⌜ Laid (now words) ⌝ }
-    ensures { λ r. ⌜ r ≡ foundOf (symbolStage .failsAt (now (words .entry))) ⌝ }
+    ensures { λ r. ⌜ r ≡ checked (symbolStage ∷ []) (now (words .entry)) ⌝ }
 {
     let mut r: usize = 0;
     let mut p = 4 + word(words, 3);
     while p < words.len() {
-        r = body_of(words, p, r);
+        // just past a body the next one starts, so that p lies in the body of rule r
+        if body_end(words, r) <= p {
+            r += 1;
+        }
         if wrong_in(words, p, r) {
-            return Found::At(p as u32);
+            return Answer::Refused(Refusal::Symbol(p as u32));
         }
         p += 1;
     }
-    Found::Nowhere
+    Answer::Done
 }
 
 // ---- 4 FORM
-
-// Two words that are both nonterminals.
-fn both_nonterminals(v: u16, w: u16) -> bool
-    ensures { λ b. ⌜ b ≡ bothNonterminals v w ⌝ }
-{
-    (256 <= v) & (256 <= w)
-}
 
 // The words from `start` to `end` have two adjacent nonterminals.
 fn adjacent(words: &[u16], start: usize, end: usize) -> bool
@@ -207,7 +181,7 @@ fn adjacent(words: &[u16], start: usize, end: usize) -> bool
 {
     let mut p = start;
     while p + 1 < end {
-        if both_nonterminals(words[p], words[p + 1]) {
+        if (256 <= word(words, p)) & (256 <= word(words, p + 1)) {
             return true;
         }
         p += 1;
@@ -222,7 +196,7 @@ fn no_terminal(words: &[u16], start: usize, end: usize) -> bool
 {
     let mut p = start;
     while p < end {
-        if words[p] < 256 {
+        if word(words, p) < 256 {
             return false;
         }
         p += 1;
@@ -241,19 +215,19 @@ fn bad_form(words: &[u16], r: usize) -> bool
 }
 
 // The first rule whose right side has two adjacent nonterminals, or no terminal.
-pub fn forms(words: &[u16]) -> Found
+pub fn forms(words: &[u16]) -> Answer
     requires { ⌜ Laid (now words) ⌝ }
-    ensures { λ r. ⌜ r ≡ foundOf (formStage .failsAt (now (words .entry))) ⌝ }
+    ensures { λ r. ⌜ r ≡ checked (formStage ∷ []) (now (words .entry)) ⌝ }
 {
     let rules = word(words, 3);
     let mut r: usize = 0;
     while r < rules {
         if bad_form(words, r) {
-            return Found::At(r as u32);
+            return Answer::Refused(Refusal::Form(r as u32));
         }
         r += 1;
     }
-    Found::Nowhere
+    Answer::Done
 }
 
 // ---- 5 TWIN
@@ -274,7 +248,7 @@ fn first_with(words: &[u16], r: usize) -> usize
         }
         let mut j: usize = 0;
         while j < size {
-            if words[other + j] != words[start + j] {
+            if word(words, other + j) != word(words, start + j) {
                 earlier += 1;
                 continue 'rules;
             }
@@ -286,18 +260,18 @@ fn first_with(words: &[u16], r: usize) -> usize
 }
 
 // The least rule that has the same right side as an earlier one.
-pub fn twins(words: &[u16]) -> Found
+pub fn twins(words: &[u16]) -> Answer
     requires { ⌜ Laid (now words) ⌝ }
-    ensures { λ r. ⌜ r ≡ foundOf (twinStage .failsAt (now (words .entry))) ⌝ }
+    ensures { λ r. ⌜ r ≡ checked (twinStage ∷ []) (now (words .entry)) ⌝ }
 {
     let rules = word(words, 3);
     let mut later: usize = 0;
     while later < rules {
         let first = first_with(words, later);
         if first < later {
-            return Found::At(later as u32);
+            return Answer::Refused(Refusal::Twin(later as u32));
         }
         later += 1;
     }
-    Found::Nowhere
+    Answer::Done
 }

@@ -1,4 +1,4 @@
--- Rule by rule the rows say what the rules so far show; with the ends they are the relations.
+-- The rows of #, and rule by rule what the rules so far show.
 use mathlib.Core.Path.{_≡_}
 use Prim.Native.Nat.{_-_, _≤_}
 use native.Mathlib.Omega.{arith}
@@ -6,15 +6,15 @@ use lib.ListN.{length}
 use Rattle.language.specs.Words.{grammarOf}
 use Rattle.language.specs.WordsInRange.{rules-count}
 use Rattle.table.specs.Sided.{passed-laid}
-use Rattle.table.specs.RelationRows.{Seen, seen-none, seen-more, shows}
+use Rattle.table.specs.RelationRows.{Seen, seen-more, shows}
 use Rattle.table.proofs.relations.relations_of.Statement.{statement}
 use Rattle.table.proofs.relations.relations_of.Tie as tie
 
 abbrev Inv-loop : tie.InvT-loop
-Inv-loop words left right rules shown₀ r₀ shown r = (r ≤ rules) × Seen (grammarOf words) r shown
+Inv-loop words left right rows₀ rules r₀ rows r = (r ≤ rules) × Seen (grammarOf words) r rows
 
 abbrev μ-loop : tie.MeasureT-loop
-μ-loop words left right rules shown₀ r₀ shown r = rules - r
+μ-loop words left right rows₀ rules r₀ rows r = rules - r
 
 masks-requires : tie.Need-masks-requires Inv-loop μ-loop
 masks-requires c κs = c .before .pre
@@ -22,17 +22,26 @@ masks-requires c κs = c .before .pre
 masks-requires-2 : tie.Need-masks-requires-2 Inv-loop μ-loop
 masks-requires-2 c κs = c .before .before .pre
 
+ends-show-requires : tie.Need-ends-show-requires Inv-loop μ-loop
+ends-show-requires c κs =
+    (c .before .before .before .before .before .pre, record { lefts = c .before .before .before .masks .ensures; rights = c .before .before .masks2 .ensures })
+
 word-requires : tie.Need-word-requires Inv-loop μ-loop
-word-requires c κs = let s = c .before .before .before in omega (arith, passed-laid (s .args .words .now) (s .pre) .present)
+word-requires c κs = let s = c .before .before .before .before .before .before in omega (arith, passed-laid (s .args .words .now) (s .pre) .present)
 
 loop-holds : tie.Need-loop-holds Inv-loop μ-loop
-loop-holds c = (omega arith, seen-none (grammarOf (c .before .before .before .before .args .words .now)))
+loop-holds c = (omega arith, c .before .ends-show .ensures)
 
 rule-shows-requires : tie.Need-rule-shows-requires Inv-loop μ-loop
 rule-shows-requires c κs =
-    let s = c .before .before .before .before .before .before .before .before in
-    let l = c .before .before .before .loop in
-    (s .pre, omega (arith, c .before .before .before .before .word .ensures .0), record { lefts = c .before .before .before .before .before .before .masks .ensures; rights = c .before .before .before .before .before .masks2 .ensures }, l .inv .1 .long)
+    let at-loop = c .before .before .before .before in
+    let sets = at-loop .before .before .before .before .before in
+    let read = at-loop .before .word in (
+      sets .before .before .before .pre,
+      omega (arith, read .ensures .0),
+      record { lefts = sets .before .masks .ensures; rights = sets .masks2 .ensures },
+      at-loop .loop .inv .1 .long,
+    )
 
 add-r : tie.Need-add-r Inv-loop μ-loop
 add-r c = omega arith
@@ -41,19 +50,14 @@ loop-less : tie.Need-loop-less Inv-loop μ-loop
 loop-less c = omega arith
 
 loop-again : tie.Need-loop-again Inv-loop μ-loop
-loop-again c = (omega arith, seen-more (c .before .before .before .before .loop .inv .1) (c .rule-shows .ensures))
-
-ends-show-requires : tie.Need-ends-show-requires Inv-loop μ-loop
-ends-show-requires c κs =
-    let s = c .before .before .before .before .before .before .before .before in
-    (s .pre, record { lefts = c .before .before .before .before .before .before .masks .ensures; rights = c .before .before .before .before .before .masks2 .ensures }, c .before .before .before .loop .inv .1 .long)
+loop-again c = (omega arith, seen-more (c .before .before .before .before .before .loop .inv .1) (c .rule-shows .ensures))
 
 returns : tie.Need-returns Inv-loop μ-loop
 returns c =
     let words = c .before .before .before .before .before .before .before .before .before .args .words .now in
-    let l = c .before .before .before .before .loop in
-    let all : l .r ≡ length (grammarOf words .rules) = omega (arith, c .before .before .before .before .before .word .ensures .0, rules-count words) in
-    shows (rw all at (l .inv .1)) (c .ends-show .ensures)
+    let l = c .before .loop in
+    let all : l .r ≡ length (grammarOf words .rules) = omega (arith, c .before .before .word .ensures .0, rules-count words) in
+    shows (rw all at (l .inv .1))
 
 pub relations-of-spec : {M : Type 1} → statement M
 relations-of-spec =
@@ -63,11 +67,11 @@ relations-of-spec =
     μ-loop
     masks-requires
     masks-requires-2
+    ends-show-requires
     word-requires
     loop-holds
     rule-shows-requires
     add-r
     loop-less
     loop-again
-    ends-show-requires
     returns)

@@ -1,28 +1,29 @@
--- The table is filled from the front with the definition's entries.
-use mathlib.Core.Path.{_≡_, refl}
+-- The table is filled from the front with the pairs' numbers.
+use mathlib.Core.Path.{_≡_, refl, _∙_}
 use Prim.Native.Nat.{ℕ, _-_, _≤_}
 use native.Mathlib.Omega.{arith}
 use lib.ListN.{length, take, length-set, length-replicate}
 use Rattle.laws.specs.Tabulate.{tabulate}
+use Rattle.language.specs.WordsInRange.{in-range}
 use Rattle.table.specs.Filled.{filled-more, filled-whole}
-use Rattle.table.specs.RelationRows.{entryIn}
+use Rattle.table.specs.RelationRows.{entryIn, marked}
 use Rattle.table.proofs.relations.table_of.Statement.{statement}
 use Rattle.table.proofs.relations.table_of.Tie as tie
 
 abbrev Inv-loop : tie.InvT-loop
-Inv-loop relations table₀ v₀ table v = (v ≤ 4096) × (length table ≡ 4096) × (take v table ≡ tabulate (entryIn relations) v)
+Inv-loop words rows table₀ v₀ table v = (v ≤ 4096) × (length table ≡ 4096) × (take v table ≡ tabulate (entryIn rows) v)
 
 abbrev μ-loop : tie.MeasureT-loop
-μ-loop relations table₀ v₀ table v = 4096 - v
+μ-loop words rows table₀ v₀ table v = 4096 - v
+
+relations-of-requires : tie.Need-relations-of-requires Inv-loop μ-loop
+relations-of-requires c κs = c .before .pre
 
 loop-holds : tie.Need-loop-holds Inv-loop μ-loop
 loop-holds c = (omega arith, length-replicate {A = ℕ} 4096 0, refl)
 
-held-at-requires : tie.Need-held-at-requires Inv-loop μ-loop
-held-at-requires c κs = omega arith
-
-number-of-requires : tie.Need-number-of-requires Inv-loop μ-loop
-number-of-requires c κs = tt
+entry-at-requires : tie.Need-entry-at-requires Inv-loop μ-loop
+entry-at-requires c κs = omega arith
 
 array-write-table : tie.Need-array-write-table Inv-loop μ-loop
 array-write-table c = omega arith
@@ -35,17 +36,20 @@ loop-less c = omega arith
 
 loop-again : tie.Need-loop-again Inv-loop μ-loop
 loop-again c =
-    let l = c .before .before .before .before .before .before .before .loop in
-    let h = c .before .held-at .ensures in (
+    let l = c .before .before .before .loop in
+    let rows = c .before .before .before .before .relations-of .result in (
       omega arith,
       simp length-set (l .inv .1),
-      filled-more (entryIn (c .before .before .before .before .before .before .before .before .args .t1)) (l .table) 4096 (l .inv .1) (l .v) (c .number-of .result) (omega arith) (l .inv .2) (rw (h .0, h .1, h .2) at (c .number-of .ensures)),
+      filled-more (entryIn rows) (l .table) 4096 (l .inv .1) (l .v) (c .entry-at .result) (omega arith) (l .inv .2) (c .entry-at .ensures),
     )
 
 returns : tie.Need-returns Inv-loop μ-loop
 returns c =
+    let s = c .before .before .before .before in
     let l = c .before .loop in
-    filled-whole (entryIn (c .before .before .args .t1)) (l .table) 4096 (l .inv .1) (l .v) (omega arith) (l .inv .0) (l .inv .2)
+    let r = c .before .before .relations-of in
+    filled-whole (entryIn (r .result)) (l .table) 4096 (l .inv .1) (l .v) (omega arith) (l .inv .0) (l .inv .2)
+    ∙ marked (in-range (s .args .words .now) (s .pre .head) (s .pre .symbols)) (r .result) (r .ensures) 4096
 
 pub table-of-spec : {M : Type 1} → statement M
 table-of-spec =
@@ -53,9 +57,9 @@ table-of-spec =
     (tie.spec
     Inv-loop
     μ-loop
+    relations-of-requires
     loop-holds
-    held-at-requires
-    number-of-requires
+    entry-at-requires
     array-write-table
     add-v
     loop-less

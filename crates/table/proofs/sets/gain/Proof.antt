@@ -4,8 +4,7 @@ use Prim.Native.Nat.{_<_}
 use native.Mathlib.Omega.{arith}
 use borrow.Author.Needs.{needs}
 use Rattle.language.specs.Words.{entry, word}
-use Rattle.table.specs.SetPasses.{left-low, front-of, gained-changed}
-use Rattle.table.specs.Edges.{edged}
+use Rattle.table.specs.SetPasses.{left-low, gained-changed}
 use Rattle.table.specs.Sided.{side-rules, leftOf, passed-laid}
 use Rattle.table.specs.Laid.{within}
 use Rattle.table.proofs.sets.gain.Statement.{statement}
@@ -40,30 +39,20 @@ low c =
 element-copy-out-old : tie.Need-element-copy-out-old
 element-copy-out-old c = low c
 
-edge-of-requires : tie.Need-edge-of-requires
-edge-of-requires c κs =
-    let s = c .before .before .before .before .before in
-    (passed-laid (s .args .words .now) (s .pre .0), s .pre .1)
-
 brought-requires : tie.Need-brought-requires
-brought-requires c κs =
-    let s = c .before .before .before .before .before .before in
-    let a = s .args in
-    let e = c .edge-of .ensures in
-    rw (e .0, e .1) (edged (front-of (side-rules (a .words .now) (s .pre .0) (a .from-end)) (a .r) (s .pre .1)))
+brought-requires c κs = let s = c .before .before .before .before .before in (s .pre .0, s .pre .1)
 
 mul-masks : tie.Need-mul-masks
 mul-masks c = search needs
 
 element-write-masks : tie.Need-element-write-masks
-element-write-masks c = low (c .before .before .before .before)
+element-write-masks c = low (c .before .before .before)
 
 returns : tie.Need-returns
 returns c =
-    let s = c .before .before .before .before .before .before .before in
+    let s = c .before .before .before .before .before .before in
     let a = s .args in
-    let e = c .before .edge-of .ensures in
-    rw (left-is (c .before .before .before .before), c .brought .ensures, e .0, e .1)
+    rw (left-is (c .before .before .before), c .brought .ensures)
     (refl, gained-changed (side-rules (a .words .now) (s .pre .0) (a .from-end)) (a .masks .now) (a .r) (s .pre .1) (s .pre .2))
 
 pub gain-spec : {M : Type 1} → statement M
@@ -74,7 +63,6 @@ gain-spec =
     word-requires
     mul-old
     element-copy-out-old
-    edge-of-requires
     brought-requires
     mul-masks
     element-write-masks

@@ -6,6 +6,7 @@ use mathlib.Core.Path.{_≡_, refl, sym, _∙_}
 use native.Mathlib.Omega.{arith}
 use lib.Dec.{leb}
 use lib.ListN.{length}
+use Rattle.language.specs.declared.Refusal.the-variants.{Contents}
 use Rattle.laws.specs.Tests.{ne-eqb, leb-false}
 use Rattle.language.specs.CheckContents.{wrongEntry, badContents}
 use Rattle.language.specs.Words.{countR}
@@ -50,7 +51,7 @@ returns : tie.Need-returns Inv-loop μ-loop
 returns c =
     let words = c .before .before .before .before .before .before .args .words .now in
     let l = c .before .before .before .loop in
-    found-at (badContents words) (suc (countR words)) (l .r) (omega arith) (l .inv .1) (sym (c .before .bad-contents .ensures) ∙ c .if1 .taken)
+    found-at (badContents words) Contents (suc (countR words)) (l .r) (omega arith) (l .inv .1) (sym (c .before .bad-contents .ensures) ∙ c .if1 .taken)
 
 add-r : tie.Need-add-r Inv-loop μ-loop
 add-r c = omega arith
@@ -68,7 +69,7 @@ returns-2 : tie.Need-returns-2 Inv-loop μ-loop
 returns-2 c =
     let words = c .before .before .before .before .args .words .now in
     let l = c .before .loop in
-    found-nowhere (badContents words) (suc (countR words)) (l .r) (omega arith) (l .inv .1)
+    found-nowhere (badContents words) Contents (suc (countR words)) (l .r) (omega arith) (l .inv .1)
 
 pub contents-spec : {M : Type 1} → statement M
 contents-spec =

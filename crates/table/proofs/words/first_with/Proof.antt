@@ -1,6 +1,6 @@
 -- `first_with` answers an earlier rule exactly when one has rule r's right side: it has passed only rules with another one.
 -- The inner loop has compared j words, all the same.
-use Prim.Native.Nat.{ℕ, _+_, _*_, _-_, _≤_, _<_, _^_}
+use Prim.Native.Nat.{ℕ, _+_, _-_, _≤_, _<_, _^_}
 use mathlib.Core.List.{List}
 use mir.Syntax.{w64}
 use mir.Val.{Fits}
@@ -75,9 +75,6 @@ module _ {words : List ℕ} {r start size j : ℕ} (p : Part words r start size)
   place-fits : length words < 2 ^ 64 → Fits w64 (start + j)
   place-fits g = omega (arith, p .fits)
 
-  place-scaled : length words * 2 < 2 ^ 63 → Fits w64 ((start + j) * 2)
-  place-scaled g = omega (arith, p .fits)
-
   count-fits : length words < 2 ^ 64 → Fits w64 (j + 1)
   count-fits g = omega (arith, p .fits)
 
@@ -131,23 +128,19 @@ loop-holds c =
     let p = part-by (s .pre .0) (below-r (c .before .before .before .rules-test .taken) (s .pre .1)) (c .before .before .entry2 .ensures .0) (c .before .body-end2 .ensures) in
     (refl, low, subst (Part (s .args .words .now) (o .earlier) (c .before .before .entry2 .result + 1)) (c .if1 .left) p, o .inv .1, λ k l. absurd (none-below l))
 
-add-if2 : tie.Need-add-if2 Inv-loop μ-loop Inv-rules μ-rules
-add-if2 c = place-fits (c .before .loop .inv .2) (c .loop-test .taken) (c .before .before .before .before .before .before .before .before .before .before .good .0 .0)
+add-word : tie.Need-add-word Inv-loop μ-loop Inv-rules μ-rules
+add-word c = place-fits (c .before .loop .inv .2) (c .loop-test .taken) (c .before .before .before .before .before .before .before .before .before .before .good .0 .0)
 
-mul-if2 : tie.Need-mul-if2 Inv-loop μ-loop Inv-rules μ-rules
-mul-if2 c = place-scaled (c .before .loop .inv .2) (c .loop-test .taken) (c .before .before .before .before .before .before .before .before .before .before .good .0 .1)
+word-requires : tie.Need-word-requires Inv-loop μ-loop Inv-rules μ-rules
+word-requires c κs = place-there (c .before .loop .inv .2) (c .loop-test .taken)
 
-shared-slice-read-if2 : tie.Need-shared-slice-read-if2 Inv-loop μ-loop Inv-rules μ-rules
-shared-slice-read-if2 c = place-there (c .before .before .loop .inv .2) (c .before .loop-test .taken)
+add-word-2 : tie.Need-add-word-2 Inv-loop μ-loop Inv-rules μ-rules
+add-word-2 c =
+    let l = c .before .before .loop in
+    place-fits (l .inv .3) (c .before .loop-test .taken) (c .before .before .before .before .before .before .before .before .before .before .before .good .0 .0)
 
-add-if2-2 : tie.Need-add-if2-2 Inv-loop μ-loop Inv-rules μ-rules
-add-if2-2 c = place-fits (c .before .before .loop .inv .3) (c .before .loop-test .taken) (c .before .before .before .before .before .before .before .before .before .before .before .good .0 .0)
-
-mul-if2-2 : tie.Need-mul-if2-2 Inv-loop μ-loop Inv-rules μ-rules
-mul-if2-2 c = place-scaled (c .before .before .loop .inv .3) (c .before .loop-test .taken) (c .before .before .before .before .before .before .before .before .before .before .before .good .0 .1)
-
-shared-slice-read-if2-2 : tie.Need-shared-slice-read-if2-2 Inv-loop μ-loop Inv-rules μ-rules
-shared-slice-read-if2-2 c = place-there (c .before .before .before .loop .inv .3) (c .before .before .loop-test .taken)
+word-requires-2 : tie.Need-word-requires-2 Inv-loop μ-loop Inv-rules μ-rules
+word-requires-2 c κs = place-there (c .before .before .loop .inv .3) (c .before .loop-test .taken)
 
 add-earlier-2 : tie.Need-add-earlier-2 Inv-loop μ-loop Inv-rules μ-rules
 add-earlier-2 c = rw (c .before .before .before .before .loop .inv .0) (step-fits (c .before .before .before .before .before .before .before .before .rules-test .taken) (c .before .before .before .before .before .before .before .before .before .before .before .before .before .fits .r))
@@ -160,7 +153,8 @@ rules-again-2 c =
     let s = c .before .before .before .before .before .before .before .before .before .before .before .before .before in
     let o = c .before .before .before .before .before .before .before .before .before .rules in
     let l = c .before .before .before .before .loop in
-    let differs = word-differs (l .inv .2) (l .inv .3) (l .j) (c .before .before .before .loop-test .taken) (c .if2 .taken) in
+    let unlike = rw (c .before .before .word .ensures .0, c .before .word2 .ensures .0) at (c .if2 .taken) in
+    let differs = word-differs (l .inv .2) (l .inv .3) (l .j) (c .before .before .before .loop-test .taken) unlike in
     let more = clear-more (twinOf (s .args .words .now) (s .args .r)) (o .earlier) (o .inv .2) differs in
     (rw (l .inv .0) (passed-one (c .before .before .before .before .before .before .before .before .rules-test .taken)), o .inv .1, rw (l .inv .0) more)
 
@@ -173,7 +167,8 @@ loop-less c = step-less (c .before .before .before .loop-test .taken)
 loop-again : tie.Need-loop-again Inv-loop μ-loop Inv-rules μ-rules
 loop-again c =
     let l = c .before .before .before .before .loop in
-    (l .inv .0, passed-one (c .before .before .before .loop-test .taken), l .inv .2, l .inv .3, below-more _ _ (l .inv .4) (c .if2 .left))
+    let alike = rw (c .before .before .word .ensures .0, c .before .word2 .ensures .0) at (c .if2 .left) in
+    (l .inv .0, passed-one (c .before .before .before .loop-test .taken), l .inv .2, l .inv .3, below-more _ _ (l .inv .4) alike)
 
 returns : tie.Need-returns Inv-loop μ-loop Inv-rules μ-rules
 returns c =
@@ -211,12 +206,10 @@ first-with-spec =
     rules-less
     rules-again
     loop-holds
-    add-if2
-    mul-if2
-    shared-slice-read-if2
-    add-if2-2
-    mul-if2-2
-    shared-slice-read-if2-2
+    add-word
+    word-requires
+    add-word-2
+    word-requires-2
     add-earlier-2
     rules-less-2
     rules-again-2

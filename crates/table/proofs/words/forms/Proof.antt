@@ -3,6 +3,7 @@ use Prim.Native.Nat.{_-_, _≤_}
 use mathlib.Core.Path.{sym, _∙_}
 use native.Mathlib.Omega.{arith}
 use lib.ListN.{length}
+use Rattle.language.specs.declared.Refusal.the-variants.{Form}
 use Rattle.language.specs.CheckForm.{badForm}
 use Rattle.language.specs.Words.{grammarOf}
 use Rattle.language.specs.WordsInRange.{rules-count}
@@ -33,7 +34,7 @@ returns : tie.Need-returns Inv-loop μ-loop
 returns c =
     let words = c .before .before .before .before .before .before .args .words .now in
     let l = c .before .before .before .loop in
-    found-at (badForm (grammarOf words)) (length (grammarOf words .rules)) (l .r) (omega (arith, rules-count words)) (l .inv .1)
+    found-at (badForm (grammarOf words)) Form (length (grammarOf words .rules)) (l .r) (omega (arith, rules-count words)) (l .inv .1)
     (sym (c .before .bad-form .ensures) ∙ c .if1 .taken)
 
 add-r : tie.Need-add-r Inv-loop μ-loop
@@ -52,7 +53,7 @@ returns-2 : tie.Need-returns-2 Inv-loop μ-loop
 returns-2 c =
     let words = c .before .before .before .before .args .words .now in
     let l = c .before .loop in
-    found-nowhere (badForm (grammarOf words)) (length (grammarOf words .rules)) (l .r) (omega (arith, rules-count words)) (l .inv .1)
+    found-nowhere (badForm (grammarOf words)) Form (length (grammarOf words .rules)) (l .r) (omega (arith, rules-count words)) (l .inv .1)
 
 pub forms-spec : {M : Type 1} → statement M
 forms-spec =

@@ -3,6 +3,7 @@ use Prim.Native.Nat.{_≤_, _-_}
 use mathlib.Core.Path.{sym, _∙_}
 use native.Mathlib.Omega.{arith}
 use borrow.Author.Needs.{needs}
+use Rattle.language.specs.declared.Refusal.the-variants.{Head}
 use Rattle.language.specs.CheckHead.{badHead}
 use Rattle.table.specs.Search.{Clear, clear-none, clear-more, found-at, found-nowhere}
 use Rattle.table.proofs.words.head.Statement.{statement}
@@ -26,7 +27,7 @@ cast-t5 c = omega arith
 returns : tie.Need-returns Inv-loop μ-loop
 returns c =
     let l = c .before .before .before .loop in
-    found-at (badHead (c .before .before .before .before .before .args .words .now)) 4 (l .i) (omega arith) (l .inv .1) (sym (c .before .bad-head .ensures) ∙ c .if1 .taken)
+    found-at (badHead (c .before .before .before .before .before .args .words .now)) Head 4 (l .i) (omega arith) (l .inv .1) (sym (c .before .bad-head .ensures) ∙ c .if1 .taken)
 
 add-i : tie.Need-add-i Inv-loop μ-loop
 add-i c = omega arith
@@ -40,7 +41,7 @@ loop-again c =
     (omega arith, clear-more (badHead (c .before .before .before .before .before .args .words .now)) (l .i) (l .inv .1) (sym (c .before .bad-head .ensures) ∙ c .if1 .left))
 
 returns-2 : tie.Need-returns-2 Inv-loop μ-loop
-returns-2 c = let l = c .before .loop in found-nowhere (badHead (c .before .before .before .args .words .now)) 4 (l .i) (omega arith) (l .inv .1)
+returns-2 c = let l = c .before .loop in found-nowhere (badHead (c .before .before .before .args .words .now)) Head 4 (l .i) (omega arith) (l .inv .1)
 
 pub head-spec : {M : Type 1} → statement M
 head-spec =

@@ -16,17 +16,14 @@ abbrev μ-loop : tie.MeasureT-loop
 loop-holds : tie.Need-loop-holds Inv-loop μ-loop
 loop-holds c = refl
 
-mul-if1 : tie.Need-mul-if1 Inv-loop μ-loop
-mul-if1 c = omega arith
-
-shared-slice-read-if1 : tie.Need-shared-slice-read-if1 Inv-loop μ-loop
-shared-slice-read-if1 c = omega arith
+word-requires : tie.Need-word-requires Inv-loop μ-loop
+word-requires c κs = omega arith
 
 returns : tie.Need-returns Inv-loop μ-loop
 returns c =
-    let s = c .before .before .before .before in
+    let s = c .before .before .before .before .before in
     let l = c .before .before .before .loop in
-    sym (l .inv ∙ terminal-here (s .args .words .now) (s .args .end) (s .pre) (l .p) (omega arith) (c .if1 .taken))
+    sym (l .inv ∙ terminal-here (s .args .words .now) (s .args .end) (s .pre) (l .p) (omega arith) (rw (c .before .word .ensures .0) at (c .if1 .taken)))
 
 add-p : tie.Need-add-p Inv-loop μ-loop
 add-p c = omega arith
@@ -36,13 +33,13 @@ loop-less c = omega arith
 
 loop-again : tie.Need-loop-again Inv-loop μ-loop
 loop-again c =
-    let s = c .before .before .before .before in
+    let s = c .before .before .before .before .before in
     let l = c .before .before .before .loop in
-    l .inv ∙ terminal-past (s .args .words .now) (s .args .end) (s .pre) (l .p) (omega arith) (c .if1 .left)
+    l .inv ∙ terminal-past (s .args .words .now) (s .args .end) (s .pre) (l .p) (omega arith) (rw (c .before .word .ensures .0) at (c .if1 .left))
 
 returns-2 : tie.Need-returns-2 Inv-loop μ-loop
 returns-2 c =
-    let s = c .before .before in
+    let s = c .before .before .before in
     let l = c .before .loop in
     sym (l .inv ∙ terminal-end (s .args .words .now) (s .args .end) (s .pre) (l .p) (omega arith))
 
@@ -53,8 +50,7 @@ no-terminal-spec =
     Inv-loop
     μ-loop
     loop-holds
-    mul-if1
-    shared-slice-read-if1
+    word-requires
     returns
     add-p
     loop-less

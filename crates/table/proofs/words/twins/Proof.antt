@@ -3,6 +3,7 @@ use Prim.Native.Nat.{_-_, _≤_}
 use mathlib.Core.Path.{sym, _∙_}
 use native.Mathlib.Omega.{arith}
 use lib.ListN.{length}
+use Rattle.language.specs.declared.Refusal.the-variants.{Twin}
 use Rattle.laws.specs.Tests.{lt-ltb, le-ltb}
 use Rattle.language.specs.CheckTwins.{badTwin}
 use Rattle.language.specs.Words.{grammarOf}
@@ -33,7 +34,7 @@ returns : tie.Need-returns Inv-loop μ-loop
 returns c =
     let words = c .before .before .before .before .before .before .args .words .now in
     let l = c .before .before .before .loop in
-    found-at (badTwin (grammarOf words)) (length (grammarOf words .rules)) (l .later) (omega (arith, rules-count words)) (l .inv .1)
+    found-at (badTwin (grammarOf words)) Twin (length (grammarOf words .rules)) (l .later) (omega (arith, rules-count words)) (l .inv .1)
     (sym (c .before .first-with .ensures) ∙ lt-ltb (c .before .first-with .result) (l .later) (c .if1 .taken))
 
 add-later : tie.Need-add-later Inv-loop μ-loop
@@ -55,7 +56,7 @@ returns-2 : tie.Need-returns-2 Inv-loop μ-loop
 returns-2 c =
     let words = c .before .before .before .before .args .words .now in
     let l = c .before .loop in
-    found-nowhere (badTwin (grammarOf words)) (length (grammarOf words .rules)) (l .later) (omega (arith, rules-count words)) (l .inv .1)
+    found-nowhere (badTwin (grammarOf words)) Twin (length (grammarOf words .rules)) (l .later) (omega (arith, rules-count words)) (l .inv .1)
 
 pub twins-spec : {M : Type 1} → statement M
 twins-spec =
