@@ -3,7 +3,7 @@
 --
 -- Main statements: headed; rows-fit, row-fails; sized-of; scan-more, side-few; blank-more; countable, line-within.
 use Prim.Native.Nat.{ℕ, zero, suc, _+_, _*_, _-_, _/_, _%_, _<_, _≤_, _^_}
-use mir.Syntax.{w64}
+use mir.Syntax.{w16, w64}
 use mir.Val.{Fits}
 use mathlib.Core.Path.{_≡_, refl, sym, ap, _∙_}
 use mathlib.Core.Bool.{Bool, true, false, not, _&&_, false≢true}
@@ -16,7 +16,7 @@ use lib.Dec.{leb, ltb, eqb, lit<}
 use lib.Seq.{drop-drop, getD-drop}
 use borrow.Author.Tests.{leb-true, eqb-true, ne-eqb, lt-leb, le-leb, not-true, not-false}
 use Rattle.laws.specs.Tests.{all, upTo, each-all, all-each, upTo-below, below-upTo, false-unless, not-both}
-use Rattle.laws.specs.Picks.{pick, allOf, each-of}
+use Rattle.laws.specs.Picks.{pick, allOf, each-of, pick-with, both-pick}
 use Rattle.language.specs.declared.Refusal.{Refusal}
 use Rattle.language.specs.declared.Answer.{Answer}
 use Rattle.language.specs.declared.Answer.the-variants.{Done, Refused}
@@ -27,19 +27,16 @@ use Rattle.language.specs.WordsInRange.{few-terminals, few-nonterminals}
 use Rattle.area.specs.declared.shape.Scan.{Scan}
 use Rattle.area.specs.declared.shape.Walk.{Walk}
 use Rattle.area.specs.Layout.{need, slotsAt}
-use Rattle.area.specs.Shape.{isDone, ruleA, grammarInShape, byteFits, ruleB, ruleC, symbolFits, placeFits, tag, oneIfTerminal, broken, opened, inner, scanSlot, scanned, freshScan, side, boundsFit, statusFits, goneFits, sidesFit, fallen, counted, liveLine, lineOf, blank}
+use Rattle.area.specs.Shape.{isDone, ruleA, grammarInShape, byteFits, ruleB, ruleC, symbolFits, placeFits, tag, oneIfTerminal, broken, opened, inner, scanSlot, scanned, freshScan, side, boundsFit, statusFits, goneFits, sidesFit, fallen, counted, liveLine, lineOf, walkOf, blank, walkFits, areaInShape, inShape}
 use Rattle.area.specs.WordsOfShape.{rule-a-exactly}
-use Rattle.area.proofs.Joined.{kept2, left2}
+use Rattle.area.proofs.Joined.{kept, left}
 use Rattle.area.specs.ShapeCode.{rowFits, Sized, Few, Within, Countable}
 
--- what holds of both values holds of the one picked
-picked : {A : Type 0} (P : A → Type 0) (b : Bool) {x y : A} → (b ≡ true → P x) → (b ≡ false → P y) → P (pick b x y)
-picked P true f g = f refl
-picked P false f g = g refl
+pub tag-last : (k l : ℕ) → k ≤ 1 → l ≡ tag (k - 1) l
+tag-last k l h = let e : k - 1 ≡ 0 = omega arith in rw e
 
-pub tag-some : (k l : ℕ) → (k ≡ 0 → ⊥) → tag k l ≡ 0
-tag-some zero l h = absurd (h refl)
-tag-some (suc k) l h = refl
+pub tag-early : (k l : ℕ) → 1 < k → 0 ≡ tag (k - 1) l
+tag-early k l h = let e : k - 1 ≡ suc (k - 2) = omega arith in rw e
 
 -- ---- (a)
 
@@ -68,10 +65,6 @@ module _ (test : ℕ → Bool) (k : ℕ) where
   pub one-fails : (v : ℕ) → v < k → test v ≡ false → all test (upTo k) ≡ false
   one-fails v h e = false-unless (all test (upTo k)) (λ p. not-both (test v) (all-each test (below-upTo k v h) p) e)
 
-both-pass : (a b : Bool) → a ≡ true → b ≡ true → pick a b false ≡ true
-both-pass true b h k = k
-both-pass false b h k = h
-
 second-fails : (a b : Bool) → b ≡ false → pick a b false ≡ false
 second-fails true b k = k
 second-fails false b k = refl
@@ -95,7 +88,7 @@ module _ (t : ℕ) (matrix : List ℕ) where
   -- each row fits, so each byte does
   pub rows-fit : 4096 ≤ length matrix → ((a : ℕ) → a < 64 → rowFits t matrix a ≡ true) → ruleB t matrix ≡ true
   unfolding rowFits
-  rows-fit long rows = both-pass (leb 4096 (length matrix)) (all byte (upTo 4096)) (le-leb 4096 (length matrix) long) (all-pass byte 4096 fits)
+  rows-fit long rows = both-pick (leb 4096 (length matrix)) (all byte (upTo 4096)) (le-leb 4096 (length matrix) long) (all-pass byte 4096 fits)
     where
       fits : (v : ℕ) → v < 4096 → byte v ≡ true
       fits v h =
@@ -142,6 +135,22 @@ short area h = go (leb 1 (getD area 0 0)) (leb (getD area 0 0) 16384) (leb 1 (ge
     go true false c d = refl
     go false b c d = refl
 
+-- ---- the whole
+
+module _ (words matrix area : List ℕ) where
+  pub shape-left : not (grammarInShape words matrix && ruleC area) ≡ true → false ≡ inShape words matrix area
+  unfolding inShape areaInShape
+  shape-left h = go (grammarInShape words matrix) (ruleC area) h
+    where
+      go : (a b : Bool) → not (a && b) ≡ true → false ≡ pick a (pick b (walkFits area (walkOf (countT words) (countN words) area)) false) false
+      go true true h = absurd (false≢true h)
+      go true false h = refl
+      go false b h = refl
+
+  pub shape-kept : grammarInShape words matrix ≡ true → ruleC area ≡ true → walkFits area (walkOf (countT words) (countN words) area) ≡ inShape words matrix area
+  unfolding inShape areaInShape
+  shape-kept d e = rw (d, e)
+
 -- ---- a slot more
 
 pub scan-more : (t n tokens count slot at : ℕ) (xs : List ℕ) (st : Scan)
@@ -160,7 +169,7 @@ mark-small t n s m h = go (decLe m 1)
 
 pub one-small : (s : ℕ) → oneIfTerminal s ≤ 1
 one-small s =
-    picked (λ v. v ≤ 1) (eqb s 0) (λ e. omega arith) (λ e. picked (λ v. v ≤ 1) (ltb s 256) (λ i. omega arith) (λ i. omega arith))
+    pick-with (λ v. v ≤ 1) (eqb s 0) (λ e. omega arith) (λ e. pick-with (λ v. v ≤ 1) (ltb s 256) (λ i. omega arith) (λ i. omega arith))
 
 module _ (t n tokens slot : ℕ) (st : Scan) (s m l b k : ℕ) (few : Few k st) where
   abbrev More : Scan → Type 0
@@ -171,10 +180,10 @@ module _ (t n tokens slot : ℕ) (st : Scan) (s m l b k : ℕ) (few : Few k st) 
 
   open-few : More (opened t n tokens slot st s m l b)
   open-few =
-      picked More (eqb l 0) (λ e. none-few)
-      (λ e. picked More (symbolFits t n s m)
-      (λ fits. picked More (placeFits tokens slot s l)
-      (λ i. picked More (eqb b (tag (l - 1) l))
+      pick-with More (eqb l 0) (λ e. none-few)
+      (λ e. pick-with More (symbolFits t n s m)
+      (λ fits. pick-with More (placeFits tokens slot s l)
+      (λ i. pick-with More (eqb b (tag (l - 1) l))
       (λ j. record { symbols = omega arith; terminals = omega (arith, one-small s); marks = omega (arith, mark-small t n s m fits) })
       (λ j. none-few))
       (λ i. none-few))
@@ -182,10 +191,10 @@ module _ (t n tokens slot : ℕ) (st : Scan) (s m l b k : ℕ) (few : Few k st) 
 
   inner-few : More (inner st s m l b)
   inner-few =
-      picked More (eqb s 0)
-      (λ e. picked More (eqb m 0)
-      (λ f. picked More (eqb l 0)
-      (λ g. picked More (eqb b (tag (st .within - 1) (st .size)))
+      pick-with More (eqb s 0)
+      (λ e. pick-with More (eqb m 0)
+      (λ f. pick-with More (eqb l 0)
+      (λ g. pick-with More (eqb b (tag (st .within - 1) (st .size)))
       (λ i. record { symbols = omega arith; terminals = omega arith; marks = omega arith })
       (λ i. none-few))
       (λ g. none-few))
@@ -194,7 +203,7 @@ module _ (t n tokens slot : ℕ) (st : Scan) (s m l b k : ℕ) (few : Few k st) 
 
   pub slot-few : More (scanSlot t n tokens slot st s m l b)
   unfolding scanSlot
-  slot-few = picked More (st .ok) (λ e. picked More (eqb (st .within) 0) (λ i. open-few) (λ i. inner-few)) (λ e. none-few)
+  slot-few = pick-with More (st .ok) (λ e. pick-with More (eqb (st .within) 0) (λ i. open-few) (λ i. inner-few)) (λ e. none-few)
 
 scanned-few : (t n tokens count slot : ℕ) (ws : List ℕ) (st : Scan) (k : ℕ) → Few k st → Few (k + count) (scanned t n tokens count slot ws st)
 scanned-few t n tokens zero slot ws st k few = record { symbols = omega arith; terminals = omega arith; marks = omega arith }
@@ -270,7 +279,7 @@ module _ (t n : ℕ) (area : List ℕ) (sized : Sized area) (k : ℕ) (w : Walk)
       record {
         at = can .end-low;
         live = omega arith;
-        running = picked (λ v. w .running + v ≤ k + 1) (eqb x 1) (λ i. omega arith) (λ i. omega arith);
+        running = pick-with (λ v. w .running + v ≤ k + 1) (eqb x 1) (λ i. omega arith) (λ i. omega arith);
         unread = can .unread-low;
         symbols = can .symbols-low;
         terminals = can .terminals-low;
@@ -279,12 +288,12 @@ module _ (t n : ℕ) (area : List ℕ) (sized : Sized area) (k : ℕ) (w : Walk)
   pub line-within : One (lineOf t n area w x f h e y)
   unfolding lineOf
   line-within =
-      picked One (w .ok)
-      (λ i. picked One (eqb x 0)
-      (λ j. picked One (goneFits f h e y) (λ g. same-within) (λ g. none-within))
-      (λ j. picked One (statusFits x)
-      (λ s. picked One (boundsFit (getD area 0 0) (w .at) f h e)
-      (λ p. picked One (sidesFit (side t n area f h) (side t n area h e) x h e y)
+      pick-with One (w .ok)
+      (λ i. pick-with One (eqb x 0)
+      (λ j. pick-with One (goneFits f h e y) (λ g. same-within) (λ g. none-within))
+      (λ j. pick-with One (statusFits x)
+      (λ s. pick-with One (boundsFit (getD area 0 0) (w .at) f h e)
+      (λ p. pick-with One (sidesFit (side t n area f h) (side t n area h e) x h e y)
       (λ q. counted-within (bounded-of (getD area 0 0) (w .at) f h e p))
       (λ q. none-within))
       (λ p. none-within))
@@ -301,29 +310,25 @@ product-below a b ha hb =
 
 -- ---- a live chunk's row, from the values that the code holds
 
-module _ (t n : ℕ) (area : List ℕ) (w : Walk) (x f h e y : ℕ) {p q : Bool} (status : p ≡ statusFits x) (bounds : q ≡ boundsFit (getD area 0 0) (w .at) f h e) where
-  pub line-unfit : not (p && q) ≡ true → fallen ≡ liveLine t n area w x f h e y
-  line-unfit k = sym (left2 _ _ status bounds k)
+module _ (t n : ℕ) (area : List ℕ) (w : Walk) (x f h e y : ℕ) {p : Bool} (bounds : p ≡ pick (statusFits x) (boundsFit (getD area 0 0) (w .at) f h e) false) where
+  pub line-unfit : not p ≡ true → fallen ≡ liveLine t n area w x f h e y
+  line-unfit k = sym (left _ _ (statusFits x) (boundsFit (getD area 0 0) (w .at) f h e) bounds k)
 
-  module _ (k : not (p && q) ≡ false) {stack unread : Scan} {r : Bool} (ss : stack ≡ side t n area f h) (us : unread ≡ side t n area h e)
+  module _ (k : not p ≡ false) {stack unread : Scan} {r : Bool} (ss : stack ≡ side t n area f h) (us : unread ≡ side t n area h e)
       (rs : r ≡ sidesFit stack unread x h e y) where
     sides : r ≡ sidesFit (side t n area f h) (side t n area h e) x h e y
     sides = rw (ss, us) at rs
 
     pub sides-unfit : not r ≡ true → fallen ≡ liveLine t n area w x f h e y
-    sides-unfit j = sym (kept2 _ _ status bounds k ∙ simp (sym sides ∙ not-true r j))
+    sides-unfit j = sym (kept _ _ (statusFits x) (boundsFit (getD area 0 0) (w .at) f h e) bounds k ∙ simp (sym sides ∙ not-true r j))
 
     pub line-fit : not r ≡ false → counted w stack unread x e ≡ liveLine t n area w x f h e y
-    line-fit j = rw (ss, us) (sym (kept2 _ _ status bounds k ∙ simp (sym sides ∙ not-false r j)))
+    line-fit j = rw (ss, us) (sym (kept _ _ (statusFits x) (boundsFit (getD area 0 0) (w .at) f h e) bounds k ∙ simp (sym sides ∙ not-false r j)))
 
 -- ---- words that are read one after another, from a place on
 
-module _ {place count : ℕ} where
-  pub index-fits : place < count → count < 2 ^ 64 → Fits w64 place
-  index-fits h g = omega arith
-
-  pub index-scaled : place < count → count * 2 < 2 ^ 63 → Fits w64 (place * 2)
-  index-scaled h g = omega arith
+pub index-fits : {place count : ℕ} → place < count → count < 2 ^ 64 → Fits w64 place
+index-fits h g = omega arith
 
 -- so many words from a place on
 pub record Ahead (at words count : ℕ) : Type 0 where
@@ -349,3 +354,111 @@ module _ {at count : ℕ} where
 
     pub word-4 : at + 4 < count
     word-4 = omega (arith, h .room)
+
+-- a word of the front, or of the first row
+pub front-word : {area : List ℕ} → Sized area → {i : ℕ} → i < 13 → i < length area
+front-word sized h = omega (arith, sized .long)
+
+-- ---- the numbers of (j)
+
+module _ {low high : ℕ} (l : low < 65536) (h : high < 65536) where
+  pub high-fits : Fits w64 (65536 * high)
+  high-fits = omega arith
+
+  pub moves-fit : Fits w64 (low + 65536 * high)
+  moves-fit = omega arith
+
+  pub all-moves-fit : {more : ℕ} → more < 2 ^ 33 → Fits w64 (low + 65536 * high + more)
+  all-moves-fit m = omega arith
+
+module _ {product n count : ℕ} (p : product < 2 ^ 32) (h : n < 65536) (c : count < 65536) where
+  pub product-fits : Fits w64 (product + n)
+  product-fits = omega arith
+
+  pub most-fits : Fits w64 (product + n + 4 * count)
+  most-fits = omega arith
+
+-- ---- the numbers of a live chunk's counts
+
+module _ {k e : ℕ} {w : Walk} {stack unread : Scan} (can : Countable k e w stack unread) where
+  pub unread-fits : Fits w16 (w .unread + unread .symbols)
+  unread-fits = omega (arith, can .end-low, can .unread-low)
+
+  pub stack-fits : Fits w16 (w .symbols + stack .symbols)
+  stack-fits = omega (arith, can .end-low, can .symbols-low)
+
+  pub symbols-fit : Fits w16 (w .symbols + stack .symbols + unread .symbols)
+  symbols-fit = omega (arith, can .end-low, can .symbols-low)
+
+  pub held-fits : Fits w16 (w .terminals + stack .terminals)
+  held-fits = omega (arith, can .end-low, can .terminals-low)
+
+  pub terminals-fit : Fits w16 (w .terminals + stack .terminals + unread .terminals)
+  terminals-fit = omega (arith, can .end-low, can .terminals-low)
+
+-- ---- the numbers of the loops over slots and over rows
+
+pub ahead-fits : {at words count : ℕ} → Ahead at words count → count < 2 ^ 64 → Fits w64 (at + words)
+ahead-fits h g = omega (arith, h .room)
+
+module _ {i end : ℕ} where
+  pub one-of : i < end → end - i ≡ suc (end - (i + 1))
+  one-of h = omega arith
+
+  pub fewer : i < end → end - (i + 1) < end - i
+  fewer h = omega arith
+
+  pub none-of : end ≤ i → end - i ≡ 0
+  none-of h = omega arith
+
+module _ {from slot : ℕ} (h : from ≤ slot) where
+  pub further : from ≤ slot + 1
+  further = omega arith
+
+  pub passed-more : slot + 1 - from ≡ slot - from + 1
+  passed-more = omega arith
+
+-- a slot of a side
+pub next-slot : (base slot : ℕ) {at : ℕ} → at ≡ base + 4 * slot → at + 4 ≡ base + 4 * (slot + 1)
+next-slot base slot e = omega arith
+
+module _ {area : List ℕ} (sized : Sized area) {slot to : ℕ} (h : slot < to) (low : to ≤ getD area 0 0 + 2) where
+  pub slot-ahead : {at : ℕ} → at ≡ slotsAt area + 4 * slot → Ahead at 4 (length area)
+  slot-ahead e = record { room = omega (arith, sized .long) }
+
+  pub slot-low : slot ≤ getD area 0 0 + 1
+  slot-low = omega arith
+
+  pub slot-fits : Fits w16 (slot + 1)
+  slot-fits = omega (arith, sized .few-tokens)
+
+  pub few-here : (from : ℕ) (st : Scan) → Few (slot - from) st → Few 16386 st
+  few-here from st few =
+      let k : slot ≤ 16385 = omega (arith, sized .few-tokens) in
+      record { symbols = omega (arith, few .symbols); terminals = omega (arith, few .terminals); marks = omega (arith, few .marks) }
+
+pub few-fresh : (from : ℕ) → Few (from - from) freshScan
+few-fresh from = record { symbols = omega arith; terminals = omega arith; marks = omega arith }
+
+-- a row of the table
+module _ {area : List ℕ} (sized : Sized area) {i count : ℕ} (h : i < count) (few : count ≡ getD area 1 0) where
+  pub row-ahead : {at : ℕ} → at ≡ 5 + 5 * i → Ahead at 5 (length area)
+  row-ahead e = record { room = omega (arith, sized .long) }
+
+  pub row-fits : Fits w64 (i + 1)
+  row-fits = omega (arith, sized .few-chunks)
+
+  pub within-here : (w : Walk) → Within i w → Within 63 w
+  within-here w within =
+      let k : i ≤ 63 = omega (arith, sized .few-chunks) in
+      record {
+        at = within .at;
+        live = omega (arith, within .live);
+        running = omega (arith, within .running);
+        unread = within .unread;
+        symbols = within .symbols;
+        terminals = within .terminals;
+      }
+
+pub next-row : (i : ℕ) {at : ℕ} → at ≡ 5 + 5 * i → at + 5 ≡ 5 + 5 * (i + 1)
+next-row i e = omega arith

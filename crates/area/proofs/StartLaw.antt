@@ -5,26 +5,19 @@
 -- Main statements: rows-more, rows-last, slots-more, slots-last, zeros-more, zeros-last (a turn of each loop, and its end),
 -- start-stored; area-kept, area-started (what start leaves).
 use mathlib.Core.Path.{_≡_, sym, ap, _∙_}
-use mathlib.Core.List.{List, [], _∷_, _++_}
+use mathlib.Core.List.{List, _++_}
 use Prim.Native.Nat.{ℕ, suc, _+_, _*_, _-_, _≤_, _<_}
-use native.Mathlib.Nat.{add-zero}
 use native.Mathlib.Numerals.{add-one, add-four, add-five}
 use native.Mathlib.Omega.{arith}
 use lib.ListN.{length, getD, set, drop, drop-of-length-le}
 use lib.Seq.{sets, sets-eq, drop-cons}
+use Rattle.laws.specs.Parts.{sets-append}
 use Rattle.language.specs.declared.Refusal.{Refusal}
 use Rattle.language.specs.declared.Answer.the-variants.{Done, Refused}
 use Rattle.area.specs.Layout.{need, zeros}
 use Rattle.area.specs.Start.{startAnswer, startedArea, startArea}
 use Rattle.area.specs.StartWords.{startFront, startRow, startRows, startSlot, unreadSlots, startSlots, startWords, length-start-rows, length-start-slots, start-words, start-words-length}
-use Rattle.area.specs.StartChecks.{writable, right-cuts}
-
--- one list of words after another
-sets-append : (words : List ℕ) (i : ℕ) (a b : List ℕ) → sets words i (a ++ b) ≡ sets (sets words i a) (i + length a) b
-sets-append words i [] b = rw (add-zero i)
-sets-append words i (x ∷ a) b =
-    let e : suc i + length a ≡ i + suc (length a) = omega arith in
-    sets-append (set words i x) (suc i) a b ∙ rw e
+use Rattle.area.specs.StartChecks.{Writable, writable, right-cuts}
 
 module _ (area cuts : List ℕ) (n from head at i : ℕ) where
   pub rows-more : i < length cuts
@@ -61,6 +54,14 @@ zeros-first area from count =
     let e : from + 0 ≡ from = omega arith in
     let f : count - 0 ≡ count = omega arith in
     rw (e, f)
+
+-- the words of the row are there, in an area that is as long as the one lent
+module _ {tokens cuts : List ℕ} {room : ℕ} (can : Writable tokens cuts room) {long : ℕ} (e : long ≡ room) where
+  pub slots-there : 5 + 5 * (length cuts + 1) + 4 * (length tokens + 2) ≤ long
+  slots-there = omega (arith, can .enough)
+
+  pub made-there : 5 + 5 * (length cuts + 1) + 4 * (length tokens + 2) + 3 * length tokens ≤ long
+  made-there = omega (arith, can .enough)
 
 module _ (area tokens cuts : List ℕ) where
   -- the front, the table, the slots and the reductions, one after the other

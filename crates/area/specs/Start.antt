@@ -7,21 +7,20 @@
 -- Main statements: bad-state-given, empty-given, too-long-given, bad-token-given, bad-cut-given, start-room-given, starts-exactly.
 use mathlib.Core.Path.{_≡_, refl, sym, _∙_}
 use mathlib.Core.Bool.{Bool, true, false, false≢true, true≢false}
-use mathlib.Core.Logic.{_↔_, _⊎_, inl, inr}
+use mathlib.Core.Logic.{_↔_}
 use mathlib.Core.List.{List, [], _∷_, _++_}
 use mathlib.Core.Option.{Option, none, some}
 use Prim.Native.Nat.{ℕ, zero, suc, _+_, _≤_, _<_}
 use native.Mathlib.Omega.{arith}
-use lib.Dec.{ltb, leb, eqb}
+use lib.Dec.{ltb, eqb}
 use lib.ListN.{length, getD, drop}
 use Rattle.laws.specs.Least.{Least, Nowhere, Finds, nowhere, least, firstBelow, first-finds}
-use Rattle.laws.specs.Tests.{ltb-true, ltb-false, lt-ltb, le-ltb, eqb-true, eqb-false, or-cases, or-first, or-second}
-use Rattle.language.specs.declared.Refusal.{Refusal}
+use Rattle.laws.specs.Tests.{ltb-true, ltb-false, lt-ltb, eqb-true}
 use Rattle.language.specs.declared.Refusal.the-variants.{BadState, Empty, TooLong, BadToken, BadCut, NoRoom}
 use Rattle.language.specs.declared.Answer.{Answer}
 use Rattle.language.specs.declared.Answer.the-variants.{Done, Refused}
 use Rattle.language.specs.Words.{countT, Outside, outside, outside-iff}
-use Rattle.language.specs.Stages.{Stage, checked, Condition, stagesOf, Ready, ready, finding, Given, passes-all, fails, passes, given-exactly, none-left}
+use Rattle.language.specs.Stages.{Stage, checked, Condition, stagesOf, Ready, ready, finding, Given, passes-all, fails, passes, given-exactly}
 use Rattle.machine.specs.States.{start}
 use Rattle.area.specs.Layout.{need, encode}
 use Rattle.area.specs.Shape.{grammarInShape}
@@ -221,6 +220,29 @@ pub record Startable (input : StartInput) : Type 0 where
   pub right-cuts : Nowhere (WrongCut input)
   pub room-enough : Nowhere (NoRoomForRow input)
 
+-- which check answers, and that those before it pass: `Given`, taken apart once for all the statements below
+data Told (input : StartInput) : Answer → Type 0 where
+  told-shape : {v : ℕ} → Least (GrammarBroken input) v → Told input (Refused BadState)
+  told-empty : {v : ℕ} → Nowhere (GrammarBroken input) → Least (NoTokens input) v → Told input (Refused Empty)
+  told-length : {v : ℕ} → Nowhere (GrammarBroken input) → Nowhere (NoTokens input) → Least (TooMany input) v → Told input (Refused TooLong)
+  told-token : {v : ℕ} → Nowhere (GrammarBroken input) → Nowhere (NoTokens input) → Nowhere (TooMany input) → Least (WrongToken input) v
+      → Told input (Refused (BadToken v))
+  told-cut : {v : ℕ} → Nowhere (GrammarBroken input) → Nowhere (NoTokens input) → Nowhere (TooMany input) → Nowhere (WrongToken input) → Least (WrongCut input) v
+      → Told input (Refused (BadCut v))
+  told-room : {v : ℕ} → Nowhere (GrammarBroken input) → Nowhere (NoTokens input) → Nowhere (TooMany input) → Nowhere (WrongToken input) → Nowhere (WrongCut input)
+      → Least (NoRoomForRow input) v → Told input (Refused (NoRoom v))
+  told-done : Startable input → Told input Done
+
+told : (input : StartInput) {answer : Answer} → Given input startConditions answer → Told input answer
+told input (fails l) = told-shape l
+told input (passes a (fails l)) = told-empty a l
+told input (passes a (passes b (fails l))) = told-length a b l
+told input (passes a (passes b (passes c (fails l)))) = told-token a b c l
+told input (passes a (passes b (passes c (passes d (fails l))))) = told-cut a b c d l
+told input (passes a (passes b (passes c (passes d (passes e (fails l)))))) = told-room a b c d e l
+told input (passes a (passes b (passes c (passes d (passes e (passes f passes-all)))))) =
+    told-done (record { in-shape = a; some-token = b; few-tokens = c; right-tokens = d; right-cuts = e; room-enough = f })
+
 module _ (words matrix tokens cuts : List ℕ) (room : ℕ) where
   abbrev lent : StartInput
   lent = record { words = words; matrix = matrix; tokens = tokens; cuts = cuts; room = room }
@@ -231,29 +253,27 @@ module _ (words matrix tokens cuts : List ℕ) (room : ℕ) where
 
   -- 15 is given exactly when the grammar or the matrix breaks a shape rule
   pub bad-state-given : (startAnswer words matrix tokens cuts room ≡ Refused BadState) ↔ (grammarInShape words matrix ≡ false)
-  bad-state-given = (λ e. out (by (Refused BadState) .0 e), λ f. by (Refused BadState) .1 (fails {v = 0} (record { holds = grammar-broken f refl; least = λ u h g. absurd (omega arith) })))
+  bad-state-given = (λ e. out (told lent (by (Refused BadState) .0 e)), λ f. by (Refused BadState) .1 (fails {v = 0} (record { holds = grammar-broken f refl; least = λ u h g. absurd (omega arith) })))
     where
       broken : {v : ℕ} → GrammarBroken lent v → grammarInShape words matrix ≡ false
       broken (grammar-broken f q) = f
 
-      out : Given lent startConditions (Refused BadState) → grammarInShape words matrix ≡ false
-      out (fails l) = broken (l .holds)
-      out (passes a (passes b (passes c (passes d (passes e (passes f g)))))) = none-left lent g
+      out : Told lent (Refused BadState) → grammarInShape words matrix ≡ false
+      out (told-shape l) = broken (l .holds)
 
   -- 7 is given exactly when 15 is not and there are no tokens
   pub empty-given : (startAnswer words matrix tokens cuts room ≡ Refused Empty) ↔ (Nowhere (GrammarBroken lent) × (length tokens ≡ 0))
-  empty-given = (λ e. out (by (Refused Empty) .0 e), λ l. by (Refused Empty) .1 (passes (l .0) (fails {v = 0} (record { holds = no-tokens (l .1) refl; least = λ u h g. absurd (omega arith) }))))
+  empty-given = (λ e. out (told lent (by (Refused Empty) .0 e)), λ l. by (Refused Empty) .1 (passes (l .0) (fails {v = 0} (record { holds = no-tokens (l .1) refl; least = λ u h g. absurd (omega arith) }))))
     where
       empty : {v : ℕ} → NoTokens lent v → length tokens ≡ 0
       empty (no-tokens e q) = e
 
-      out : Given lent startConditions (Refused Empty) → Nowhere (GrammarBroken lent) × (length tokens ≡ 0)
-      out (passes a (fails l)) = (a, empty (l .holds))
-      out (passes a (passes b (passes c (passes d (passes e (passes f g)))))) = none-left lent g
+      out : Told lent (Refused Empty) → Nowhere (GrammarBroken lent) × (length tokens ≡ 0)
+      out (told-empty a l) = (a, empty (l .holds))
 
   -- 8 is given exactly when 15 is not and there are more than 16,384 tokens
   pub too-long-given : (startAnswer words matrix tokens cuts room ≡ Refused TooLong) ↔ (Nowhere (GrammarBroken lent) × (16384 < length tokens))
-  too-long-given = (λ e. out (by (Refused TooLong) .0 e), λ l. by (Refused TooLong) .1 (passes (l .0) (passes (some-of (l .1)) (fails {v = 0} (record { holds = too-many (l .1) refl; least = λ u h g. absurd (omega arith) })))))
+  too-long-given = (λ e. out (told lent (by (Refused TooLong) .0 e)), λ l. by (Refused TooLong) .1 (passes (l .0) (passes (some-of (l .1)) (fails {v = 0} (record { holds = too-many (l .1) refl; least = λ u h g. absurd (omega arith) })))))
     where
       some-of : 16384 < length tokens → (v : ℕ) → NoTokens lent v → ⊥
       some-of h v (no-tokens e q) = omega arith
@@ -261,43 +281,39 @@ module _ (words matrix tokens cuts : List ℕ) (room : ℕ) where
       many : {v : ℕ} → TooMany lent v → 16384 < length tokens
       many (too-many h q) = h
 
-      out : Given lent startConditions (Refused TooLong) → Nowhere (GrammarBroken lent) × (16384 < length tokens)
-      out (passes a (passes b (fails l))) = (a, many (l .holds))
-      out (passes a (passes b (passes c (passes d (passes e (passes f g)))))) = none-left lent g
+      out : Told lent (Refused TooLong) → Nowhere (GrammarBroken lent) × (16384 < length tokens)
+      out (told-length a b l) = (a, many (l .holds))
 
   -- 9 is given at v exactly when 15, 7 and 8 are not, and v is the first place with a token outside 1..T
   pub bad-token-given : (v : ℕ) → (startAnswer words matrix tokens cuts room ≡ Refused (BadToken v))
       ↔ (Nowhere (GrammarBroken lent) × Nowhere (NoTokens lent) × Nowhere (TooMany lent) × Least (WrongToken lent) v)
-  bad-token-given v = (λ e. out (by (Refused (BadToken v)) .0 e), λ l. by (Refused (BadToken v)) .1 (passes (l .0) (passes (l .1) (passes (l .2) (fails (l .3))))))
+  bad-token-given v = (λ e. out (told lent (by (Refused (BadToken v)) .0 e)), λ l. by (Refused (BadToken v)) .1 (passes (l .0) (passes (l .1) (passes (l .2) (fails (l .3))))))
     where
-      out : Given lent startConditions (Refused (BadToken v)) → Nowhere (GrammarBroken lent) × Nowhere (NoTokens lent) × Nowhere (TooMany lent) × Least (WrongToken lent) v
-      out (passes a (passes b (passes c (fails l)))) = (a, b, c, l)
-      out (passes a (passes b (passes c (passes d (passes e (passes f g)))))) = none-left lent g
+      out : Told lent (Refused (BadToken v)) → Nowhere (GrammarBroken lent) × Nowhere (NoTokens lent) × Nowhere (TooMany lent) × Least (WrongToken lent) v
+      out (told-token a b c l) = (a, b, c, l)
 
   -- 10 is given at v exactly when 15 and 7 to 9 are not, and there are more than 63 cuts and v is 63, or v is the first bad cut's index
   pub bad-cut-given : (v : ℕ) → (startAnswer words matrix tokens cuts room ≡ Refused (BadCut v))
       ↔ (Nowhere (GrammarBroken lent) × Nowhere (NoTokens lent) × Nowhere (TooMany lent) × Nowhere (WrongToken lent) × Least (WrongCut lent) v)
-  bad-cut-given v = (λ e. out (by (Refused (BadCut v)) .0 e), λ l. by (Refused (BadCut v)) .1 (passes (l .0) (passes (l .1) (passes (l .2) (passes (l .3) (fails (l .4)))))))
+  bad-cut-given v = (λ e. out (told lent (by (Refused (BadCut v)) .0 e)), λ l. by (Refused (BadCut v)) .1 (passes (l .0) (passes (l .1) (passes (l .2) (passes (l .3) (fails (l .4)))))))
     where
-      out : Given lent startConditions (Refused (BadCut v))
+      out : Told lent (Refused (BadCut v))
           → Nowhere (GrammarBroken lent) × Nowhere (NoTokens lent) × Nowhere (TooMany lent) × Nowhere (WrongToken lent) × Least (WrongCut lent) v
-      out (passes a (passes b (passes c (passes d (fails l))))) = (a, b, c, d, l)
-      out (passes a (passes b (passes c (passes d (passes e (passes f g)))))) = none-left lent g
+      out (told-cut a b c d l) = (a, b, c, d, l)
 
   -- 11 is given, with the words needed, exactly when 15 and 7 to 10 are not and the area has fewer
   pub start-room-given : (v : ℕ) → (startAnswer words matrix tokens cuts room ≡ Refused (NoRoom v))
       ↔ (Nowhere (GrammarBroken lent) × Nowhere (NoTokens lent) × Nowhere (TooMany lent) × Nowhere (WrongToken lent) × Nowhere (WrongCut lent)
       × (room < needed lent) × (v ≡ needed lent))
-  start-room-given v = (λ e. out (by (Refused (NoRoom v)) .0 e), λ l. back (l .0) (l .1) (l .2) (l .3) (l .4) (l .5) (l .6))
+  start-room-given v = (λ e. out (told lent (by (Refused (NoRoom v)) .0 e)), λ l. back (l .0) (l .1) (l .2) (l .3) (l .4) (l .5) (l .6))
     where
       short : {u : ℕ} → NoRoomForRow lent u → (room < needed lent) × (u ≡ needed lent)
       short (no-room h q) = (h, q)
 
-      out : Given lent startConditions (Refused (NoRoom v))
+      out : Told lent (Refused (NoRoom v))
           → Nowhere (GrammarBroken lent) × Nowhere (NoTokens lent) × Nowhere (TooMany lent) × Nowhere (WrongToken lent) × Nowhere (WrongCut lent)
           × (room < needed lent) × (v ≡ needed lent)
-      out (passes a (passes b (passes c (passes d (passes e (fails l)))))) = (a, b, c, d, e, short (l .holds) .0, short (l .holds) .1)
-      out (passes a (passes b (passes c (passes d (passes e (passes f g)))))) = none-left lent g
+      out (told-room a b c d e l) = (a, b, c, d, e, short (l .holds) .0, short (l .holds) .1)
 
       back : Nowhere (GrammarBroken lent) → Nowhere (NoTokens lent) → Nowhere (TooMany lent) → Nowhere (WrongToken lent) → Nowhere (WrongCut lent)
           → room < needed lent → v ≡ needed lent → startAnswer words matrix tokens cuts room ≡ Refused (NoRoom v)
@@ -307,11 +323,10 @@ module _ (words matrix tokens cuts : List ℕ) (room : ℕ) where
   -- start succeeds exactly when none of the conditions holds anywhere
   pub starts-exactly : (startAnswer words matrix tokens cuts room ≡ Done) ↔ Startable lent
   starts-exactly = (
-    λ e. out (by Done .0 e),
+    λ e. out (told lent (by Done .0 e)),
     λ s. by Done .1 (passes (s .in-shape) (passes (s .some-token) (passes (s .few-tokens) (passes (s .right-tokens) (passes (s .right-cuts)
         (passes (s .room-enough) passes-all)))))),
   )
     where
-      out : Given lent startConditions Done → Startable lent
-      out (passes a (passes b (passes c (passes d (passes e (passes f passes-all)))))) =
-          record { in-shape = a; some-token = b; few-tokens = c; right-tokens = d; right-cuts = e; room-enough = f }
+      out : Told lent Done → Startable lent
+      out (told-done s) = s

@@ -1,61 +1,78 @@
--- The checks that start makes, as the code makes them: what a search finds, one check after another, and what holds where all pass.
+-- The checks that start makes, as the code makes them: 15, then those of the tokens, then those of the cuts and the room; and what holds
+-- where all pass.
 -- Document 01: "Start checks 15 .., 7, 8, 9, 10, 11"; the table's "first such place" and "63, else first bad cut's index".
--- Rests on Start and StartKept, and on laws' Least.
+-- Rests on Start and StartKept, on laws' Least, and on language's Stages.
 --
--- Main definitions: foundOf, badTokenAt, badCutAt, badCuts, Left, Writable.
--- Main statements: found-at, found-nothing (what a search returns is what the definition finds), at-is, nothing-is (and back);
--- all-left, passed, refused (the answer, check by check); writable, right-cuts (what holds where nothing is refused).
+-- Main definitions: Clear, badTokenAt, badCutAt, tokensAnswer, cutsAnswer, Writable.
+-- Main statements: found-at, first-nowhere (what a search finds is what the definition finds); the answer, check by check: no-token,
+-- many-tokens, bad-token, right-tokens, many-cuts, bad-cut, small-room, enough-room, broken-grammar, refused-tokens, then-cuts;
+-- writable, right-cuts (what holds where nothing is refused).
 use mathlib.Core.Path.{_≡_, refl, sym, ap, _∙_}
-use mathlib.Core.Bool.{Bool, true, false, not, false≢true}
+use mathlib.Core.Bool.{Bool, true, false, _||_, false≢true}
 use mathlib.Core.List.{List, [], _∷_}
 use mathlib.Core.Option.{Option, none, some}
 use Prim.Native.Nat.{ℕ, _+_, _≤_, _<_}
 use native.Mathlib.Numerals.{add-one}
 use native.Mathlib.Omega.{arith}
 use native.Mathlib.Decide.{decLt}
-use lib.Dec.{ltb}
+use lib.Dec.{ltb, eqb}
 use lib.ListN.{length, getD, List·getD-eq-default}
 use Rattle.laws.specs.Least.{firstBelow, first-at, first-nowhere}
 pub use Rattle.laws.specs.Least.{Clear, clear-more}
-use Rattle.laws.specs.Tests.{lt-ltb, le-ltb}
+use Rattle.laws.specs.Tests.{lt-ltb, le-ltb, eq-eqb, ne-eqb}
+use Rattle.language.specs.declared.Refusal.{Refusal}
+use Rattle.language.specs.declared.Refusal.the-variants.{BadState, Empty, TooLong, BadToken, BadCut, NoRoom}
 use Rattle.language.specs.declared.Answer.{Answer}
 use Rattle.language.specs.declared.Answer.the-variants.{Done, Refused}
-use Rattle.language.specs.Words.{outside}
-use Rattle.language.specs.Stages.{Stage, checked}
+use Rattle.language.specs.Words.{countT, outside}
+use Rattle.language.specs.Stages.{checked, thenChecked, checked-append}
 use Rattle.language.specs.Checks.{checkSymbols}
-use Rattle.area.specs.declared.begin.Found.{Found}
-use Rattle.area.specs.declared.begin.Found.the-variants.{At, Nothing}
 use Rattle.area.specs.Layout.{need}
 use Rattle.area.specs.Shape.{grammarInShape}
-use Rattle.area.specs.Start.{StartInput, failing, shapeStage, emptyStage, lengthStage, tokenStage, cutStage, roomStage}
+use Rattle.area.specs.Start.{StartInput, failing, emptyStage, lengthStage, tokenStage, cutStage, roomStage}
 use Rattle.area.specs.Start.{startAnswer, cutFalls, no-room, Startable, starts-exactly}
 use Rattle.area.specs.StartKept.{GoodCuts, few-tokens, few-cuts, cut-within, cuts-good}
 
--- what a search finds, as the code says it
-abbrev pub foundOf : Option ℕ → Found
-foundOf none = Nothing
-foundOf (some v) = At v
+-- what one check finds is refused; where it finds nothing the answer is that of the later ones
+abbrev pub refusedBy : (ℕ → Refusal) → Option ℕ → Answer → Answer
+refusedBy refusal found later = elim found [ none ↦ later | some v ↦ Refused (refusal v) ]
 
-pub at-is : (o : Option ℕ) (v : ℕ) → At v ≡ foundOf o → o ≡ some v
-at-is none v e = let z : _≡_ {A = ℕ} 0 1 = cc in absurd (omega arith)
-at-is (some u) v e = let q : u ≡ v = cc in ap some q
-
-pub nothing-is : (o : Option ℕ) → Nothing ≡ foundOf o → o ≡ none
-nothing-is none e = refl
-nothing-is (some u) e = let z : _≡_ {A = ℕ} 0 1 = cc in absurd (omega arith)
-
--- ---- a search from the front
-
-module _ (test : ℕ → Bool) where
-  pub found-at : (n i : ℕ) → i < n → Clear test i → test i ≡ true → At i ≡ foundOf (firstBelow test n)
-  found-at n i h clear e = ap foundOf (sym (first-at test n i h clear e))
-
-  pub found-nothing : (n i : ℕ) → n ≤ i → Clear test i → Nothing ≡ foundOf (firstBelow test n)
-  found-nothing n i h clear = ap foundOf (sym (first-nowhere test n i h clear))
+-- ---- 7, 8, 9
 
 -- 9: a token outside 1..t
 abbrev pub badTokenAt : ℕ → List ℕ → ℕ → Bool
 badTokenAt t tokens i = outside 1 t (getD tokens i 0)
+
+abbrev pub tokensAnswer : ℕ → List ℕ → Answer
+tokensAnswer t tokens =
+    refusedBy (λ v. Empty) (failing (eqb (length tokens) 0) 0)
+    (refusedBy (λ v. TooLong) (failing (ltb 16384 (length tokens)) 0)
+    (refusedBy BadToken (firstBelow (badTokenAt t tokens) (length tokens)) Done))
+
+module _ (t : ℕ) (tokens : List ℕ) where
+  pub no-token : length tokens ≡ 0 → Refused Empty ≡ tokensAnswer t tokens
+  no-token h = rw (eq-eqb (length tokens) 0 h, tokensAnswer)
+
+  module _ (some-token : length tokens ≡ 0 → ⊥) where
+    pub many-tokens : 16384 < length tokens → Refused TooLong ≡ tokensAnswer t tokens
+    many-tokens h = rw (ne-eqb (length tokens) 0 some-token, lt-ltb 16384 (length tokens) h, tokensAnswer)
+
+    module _ (few : length tokens ≤ 16384) (i : ℕ) (clear : Clear (badTokenAt t tokens) i) where
+      pub bad-token : i < length tokens → badTokenAt t tokens i ≡ true → Refused (BadToken i) ≡ tokensAnswer t tokens
+      bad-token h e =
+          rw (ne-eqb (length tokens) 0 some-token, le-ltb 16384 (length tokens) few, first-at (badTokenAt t tokens) (length tokens) i h clear e, tokensAnswer)
+
+      pub right-tokens : length tokens ≤ i → Done ≡ tokensAnswer t tokens
+      right-tokens h =
+          rw (ne-eqb (length tokens) 0 some-token, le-ltb 16384 (length tokens) few, first-nowhere (badTokenAt t tokens) (length tokens) i h clear, tokensAnswer)
+
+  -- where none is refused there are few
+  pub few-answered : Done ≡ tokensAnswer t tokens → length tokens ≤ 16384
+  few-answered e =
+      let many : 16384 < length tokens → ⊥ = λ h. (let q : Refused TooLong ≡ Done = many-tokens (λ z. omega arith) h ∙ sym e in let z : _≡_ {A = ℕ} 0 1 = cc in omega arith) in
+      omega arith
+
+-- ---- 10, 11
 
 -- 10: a cut above n or below its predecessor
 abbrev pub badCutAt : ℕ → List ℕ → ℕ → Bool
@@ -65,13 +82,19 @@ badCutAt n cuts i = elim (ltb n (getD cuts i 0)) [ true ↦ true | false ↦ cut
 abbrev pub badCuts : ℕ → List ℕ → Option ℕ
 badCuts n cuts = elim (ltb 63 (length cuts)) [ true ↦ some 63 | false ↦ firstBelow (badCutAt n cuts) (length cuts) ]
 
-module _ (n : ℕ) (cuts : List ℕ) where
-  pub cut-high : (i : ℕ) → n < getD cuts i 0 → badCutAt n cuts i ≡ true
-  cut-high i h = rw (lt-ltb n (getD cuts i 0) h, badCutAt)
+abbrev pub cutsAnswer : ℕ → List ℕ → ℕ → Answer
+cutsAnswer n cuts room =
+    refusedBy BadCut (badCuts n cuts)
+    (refusedBy NoRoom (failing (ltb room (need n (length cuts + 1))) (need n (length cuts + 1))) Done)
 
-  -- a cut that is not above n is bad where it is below its predecessor
-  pub cut-by : (i before : ℕ) → getD cuts i 0 ≤ n → cutFalls cuts i ≡ ltb (getD cuts i 0) before → badCutAt n cuts i ≡ ltb (getD cuts i 0) before
-  cut-by i before h e = rw (le-ltb n (getD cuts i 0) h, badCutAt) e
+either : (a b : Bool) → elim a [ true ↦ true | false ↦ b ] ≡ (a || b)
+either true b = refl
+either false b = refl
+
+module _ (n : ℕ) (cuts : List ℕ) where
+  -- a cut is bad by the two tests that the code joins
+  pub cut-by : (i before : ℕ) → cutFalls cuts i ≡ ltb (getD cuts i 0) before → badCutAt n cuts i ≡ (ltb n (getD cuts i 0) || ltb (getD cuts i 0) before)
+  cut-by i before e = either (ltb n (getD cuts i 0)) (cutFalls cuts i) ∙ ap (λ b. ltb n (getD cuts i 0) || b) e
 
   -- the first cut has none before it, as if 0 stood there
   pub falls-first : cutFalls cuts 0 ≡ ltb (getD cuts 0 0) 0
@@ -80,17 +103,24 @@ module _ (n : ℕ) (cuts : List ℕ) where
   pub falls-next : (i : ℕ) → cutFalls cuts (i + 1) ≡ ltb (getD cuts (i + 1) 0) (getD cuts i 0)
   falls-next i = rw (add-one i)
 
-  pub many-cuts : 63 < length cuts → badCuts n cuts ≡ some 63
-  many-cuts h = rw (lt-ltb 63 (length cuts) h, badCuts)
+  module _ (room : ℕ) where
+    pub many-cuts : 63 < length cuts → Refused (BadCut 63) ≡ cutsAnswer n cuts room
+    many-cuts h = rw (lt-ltb 63 (length cuts) h, badCuts, cutsAnswer)
 
-  pub by-search : length cuts ≤ 63 → badCuts n cuts ≡ firstBelow (badCutAt n cuts) (length cuts)
-  by-search h = rw (le-ltb 63 (length cuts) h, badCuts)
+    module _ (few : length cuts ≤ 63) (i : ℕ) (clear : Clear (badCutAt n cuts) i) where
+      pub bad-cut : i < length cuts → badCutAt n cuts i ≡ true → Refused (BadCut i) ≡ cutsAnswer n cuts room
+      bad-cut h e = rw (le-ltb 63 (length cuts) few, first-at (badCutAt n cuts) (length cuts) i h clear e, badCuts, cutsAnswer)
 
-  -- where no cut is bad there are few
-  pub not-many : badCuts n cuts ≡ none → length cuts ≤ 63
-  not-many e =
-      let few : 63 < length cuts → ⊥ = λ h. (let q = many-cuts h in let z : _≡_ {A = ℕ} 0 1 = cc in omega arith) in
-      omega arith
+      module _ (end : length cuts ≤ i) where
+        pub small-room : room < need n (length cuts + 1) → Refused (NoRoom (need n (length cuts + 1))) ≡ cutsAnswer n cuts room
+        small-room h =
+            rw (le-ltb 63 (length cuts) few, first-nowhere (badCutAt n cuts) (length cuts) i end clear, lt-ltb room (need n (length cuts + 1)) h, badCuts, cutsAnswer)
+
+        pub enough-room : need n (length cuts + 1) ≤ room → Done ≡ cutsAnswer n cuts room
+        enough-room h =
+            rw (le-ltb 63 (length cuts) few, first-nowhere (badCutAt n cuts) (length cuts) i end clear, le-ltb room (need n (length cuts + 1)) h, badCuts, cutsAnswer)
+
+-- ---- 15, then the checks of the tokens, then those of the cuts
 
 -- a grammar in shape has a first word
 pub some-word : (words matrix : List ℕ) → grammarInShape words matrix ≡ true → 0 < length words
@@ -98,30 +128,31 @@ unfolding grammarInShape checkSymbols
 some-word [] matrix e = absurd (false≢true e)
 some-word (w ∷ words) matrix e = omega arith
 
--- ---- one check after another
+module _ (words matrix tokens cuts : List ℕ) (room : ℕ) where
+  abbrev lent : StartInput
+  lent = record { words = words; matrix = matrix; tokens = tokens; cuts = cuts; room = room }
 
--- the answer is that of these checks, which are left to make
-pub record Left (input : StartInput) (answer : Answer) (stages : List (Stage StartInput)) : Type 0 where
-  pub is : answer ≡ checked stages input
+  -- 15 by the test of the grammar and the matrix, then the others
+  abbrev byShape : Bool → Answer
+  byShape right =
+      refusedBy (λ v. BadState) (elim right [ true ↦ none | false ↦ some 0 ])
+      (checked (emptyStage ∷ lengthStage ∷ tokenStage ∷ cutStage ∷ roomStage ∷ []) lent)
 
-module _ {input : StartInput} {answer : Answer} {stage : Stage StartInput} {later : List (Stage StartInput)} (left : Left input answer (stage ∷ later)) where
-  pub passed : stage .failsAt input ≡ none → Left input answer later
-  passed e = record { is = left .is ∙ rw e }
+  pub broken-grammar : grammarInShape words matrix ≡ false → Refused BadState ≡ startAnswer words matrix tokens cuts room
+  unfolding startAnswer
+  broken-grammar e = ap byShape (sym e)
 
-  pub refused : (v : ℕ) → stage .failsAt input ≡ some v → Refused (stage .refusal v) ≡ answer
-  refused v e = sym (left .is ∙ rw e)
+  module _ (right : grammarInShape words matrix ≡ true) where
+    by-tokens : startAnswer words matrix tokens cuts room ≡ thenChecked (tokensAnswer (countT words) tokens) (cutStage ∷ roomStage ∷ []) lent
+    unfolding startAnswer
+    by-tokens = ap byShape right ∙ (checked-append (emptyStage ∷ lengthStage ∷ tokenStage ∷ []) (cutStage ∷ roomStage ∷ []) lent)
 
--- 15, 7, 8, 9, 10, 11
-pub all-left : (words matrix tokens cuts : List ℕ) (room : ℕ)
-    → Left (record { words = words; matrix = matrix; tokens = tokens; cuts = cuts; room = room }) (startAnswer words matrix tokens cuts room)
-    (shapeStage ∷ emptyStage ∷ lengthStage ∷ tokenStage ∷ cutStage ∷ roomStage ∷ [])
-unfolding startAnswer
-all-left words matrix tokens cuts room = record { is = refl }
+    module _ {answer : Answer} (e : answer ≡ tokensAnswer (countT words) tokens) where
+      pub refused-tokens : {refusal : Refusal} → answer ≡ Refused refusal → answer ≡ startAnswer words matrix tokens cuts room
+      refused-tokens q = q ∙ sym (by-tokens ∙ ap (λ a. thenChecked a (cutStage ∷ roomStage ∷ []) lent) (sym e ∙ q))
 
--- 15, by the test of the grammar and the matrix
-pub shape-by : (input : StartInput) (b : Bool) → b ≡ grammarInShape (input .words) (input .matrix) → shapeStage .failsAt input ≡ failing (not b) 0
-shape-by input true e = rw (sym e, shapeStage)
-shape-by input false e = rw (sym e, shapeStage)
+      pub then-cuts : answer ≡ Done → cutsAnswer (length tokens) cuts room ≡ startAnswer words matrix tokens cuts room
+      then-cuts q = sym (by-tokens ∙ ap (λ a. thenChecked a (cutStage ∷ roomStage ∷ []) lent) (sym e ∙ q))
 
 -- ---- what holds where nothing is refused
 

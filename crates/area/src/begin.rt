@@ -3,69 +3,60 @@ ghost use mathlib.Core.Path.{_≡_};
 ghost use Prim.Native.Nat.{ℕ, _+_, _*_, _≤_};
 ghost use lib.ListN.{length, getD};
 ghost use lib.Seq.{sets};
-ghost use Rattle.laws.specs.Least.{firstBelow};
 ghost use Rattle.area.specs.Layout.{zeros};
 ghost use Rattle.area.specs.Start.{startAnswer};
-ghost use Rattle.area.specs.StartChecks.{foundOf, badTokenAt, badCutAt, badCuts, Writable};
-ghost use Rattle.area.specs.StartWords.{startFront, startRow, startRows, startSlot, startSlots, startWords};
+ghost use Rattle.area.specs.StartChecks.{tokensAnswer, cutsAnswer, Writable};
+ghost use Rattle.area.specs.StartWords.{startRow, startRows, startSlot, startSlots, startWords};
 use crate::shape;
 use language::Answer;
 use language::Refusal;
 
-// What a search finds: the first that is wrong, or nothing.
-pub enum Found {
-    At(u32),
-    Nothing,
-}
-
-// 9: the first place with a token outside 1..t.
-fn first_bad_token(tokens: &[u16], t: u16) -> Found
-    requires { ⌜ length (now tokens) ≤ 16384 ⌝ }
-    ensures { λ r. ⌜ r ≡ foundOf (firstBelow (badTokenAt t (now (tokens .entry))) (length (now (tokens .entry)))) ⌝ }
+// 7, 8 and 9: some tokens, but not too many, each in 1..t.
+fn check_tokens(tokens: &[u16], t: u16) -> Answer
+    ensures { λ r. ⌜ r ≡ tokensAnswer t (now (tokens .entry)) ⌝ }
 {
+    let n = tokens.len();
+    if n == 0 {
+        return Answer::Refused(Refusal::Empty);
+    }
+    if 16384 < n {
+        return Answer::Refused(Refusal::TooLong);
+    }
     let mut i = 0;
-    while i < tokens.len() {
+    while i < n {
         let token = tokens[i];
-        if token < 1 {
-            return Found::At(i as u32);
-        }
-        if t < token {
-            return Found::At(i as u32);
+        if (token < 1) | (t < token) {
+            return Answer::Refused(Refusal::BadToken(i as u32));
         }
         i += 1;
     }
-    Found::Nothing
+    Answer::Done
 }
 
-// 10: the index of the first cut that is above n or below its predecessor.
-fn first_bad_cut(cuts: &[u16], n: u16) -> Found
-    requires { ⌜ length (now cuts) ≤ 63 ⌝ }
-    ensures { λ r. ⌜ r ≡ foundOf (firstBelow (badCutAt n (now (cuts .entry))) (length (now (cuts .entry)))) ⌝ }
+// 10 and 11: at most 63 cuts, none above n or below its predecessor, and room for the words of the row.
+fn check_cuts(cuts: &[u16], n: usize, room: usize) -> Answer
+    requires { ⌜ n ≤ 16384 ⌝ }
+    ensures { λ r. ⌜ r ≡ cutsAnswer n (now (cuts .entry)) room ⌝ }
 {
-    let mut before: u16 = 0;
+    let count = cuts.len();
+    if 63 < count {
+        return Answer::Refused(Refusal::BadCut(63));
+    }
+    let mut before = 0;
     let mut i = 0;
-    while i < cuts.len() {
-        let cut = cuts[i];
-        if n < cut {
-            return Found::At(i as u32);
-        }
-        if cut < before {
-            return Found::At(i as u32);
+    while i < count {
+        let cut = shape::wide(cuts[i]);
+        if (n < cut) | (cut < before) {
+            return Answer::Refused(Refusal::BadCut(i as u32));
         }
         before = cut;
         i += 1;
     }
-    Found::Nothing
-}
-
-// 10: 63 where there are more cuts, else the first bad cut's index.
-fn bad_cuts(cuts: &[u16], n: u16) -> Found
-    ensures { λ r. ⌜ r ≡ foundOf (badCuts n (now (cuts .entry))) ⌝ }
-{
-    if 63 < cuts.len() {
-        return Found::At(63);
+    let needed = 7 * n + 5 * (count + 1) + 13;
+    if room < needed {
+        return Answer::Refused(Refusal::NoRoom(needed as u32));
     }
-    first_bad_cut(cuts, n)
+    Answer::Done
 }
 
 // 15, 7, 8, 9, 10, 11, each over the whole input before the next. Of the area only its length, `room`, is asked.
@@ -75,39 +66,14 @@ pub fn check(words: &[u16], matrix: &[u8], tokens: &[u16], cuts: &[u16], room: u
     if !shape::grammar_in_shape(words, matrix) {
         return Answer::Refused(Refusal::BadState);
     }
-    let n = tokens.len();
-    if n == 0 {
-        return Answer::Refused(Refusal::Empty);
+    let answer = check_tokens(tokens, shape::word(words, 0));
+    if let Answer::Refused(_) = answer {
+        return answer;
     }
-    if 16384 < n {
-        return Answer::Refused(Refusal::TooLong);
-    }
-    if let Found::At(place) = first_bad_token(tokens, words[0]) {
-        return Answer::Refused(Refusal::BadToken(place));
-    }
-    if let Found::At(index) = bad_cuts(cuts, n as u16) {
-        return Answer::Refused(Refusal::BadCut(index));
-    }
-    let needed = 7 * n + 5 * (cuts.len() + 1) + 13;
-    if room < needed {
-        return Answer::Refused(Refusal::NoRoom(needed as u32));
-    }
-    Answer::Done
+    check_cuts(cuts, tokens.len(), room)
 }
 
 // ---- the words, each function's one after another from some word of the area on (`sets`)
-
-// n, C, no moves, no reductions made.
-fn write_front(area: &mut [u16], n: u16, count: u16)
-    requires { ⌜ 5 ≤ length (now area) ⌝ }
-    ensures { λ _. ⌜ now (area .exit) ≡ sets (now (area .entry)) 0 (startFront n count) ⌝ }
-{
-    area[0] = n;
-    area[1] = count;
-    area[2] = 0;
-    area[3] = 0;
-    area[4] = 0;
-}
 
 // The row of a running chunk with no mark.
 fn write_row(area: &mut [u16], at: usize, from: u16, head: u16, end: u16)
@@ -180,7 +146,7 @@ fn clear_made(area: &mut [u16], from: usize, count: usize)
     }
 }
 
-// The words of the row's start, and no word beyond.
+// The words of the row's start, and no word beyond: n, C, no moves, no reductions made; the table; the slots; the reductions.
 pub fn write(area: &mut [u16], tokens: &[u16], cuts: &[u16])
     requires { ⌜ Writable (now tokens) (now cuts) (length (now area)) ⌝ }
     ensures { λ _. ⌜ now (area .exit) ≡ sets (now (area .entry)) 0 (startWords (now (tokens .entry)) (now (cuts .entry))) ⌝ }
@@ -188,8 +154,13 @@ pub fn write(area: &mut [u16], tokens: &[u16], cuts: &[u16])
     let n = tokens.len();
     let count = cuts.len() + 1;
     let slots = 5 + 5 * count;
-    write_front(area, n as u16, count as u16);
+    let made = slots + 4 * (n + 2);
+    area[0] = n as u16;
+    area[1] = count as u16;
+    area[2] = 0;
+    area[3] = 0;
+    area[4] = 0;
     write_table(area, cuts, n as u16);
     write_slots(area, tokens, slots);
-    clear_made(area, slots + 4 * (n + 2), 3 * n);
+    clear_made(area, made, 3 * n);
 }

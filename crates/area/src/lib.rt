@@ -12,10 +12,11 @@ ghost use Rattle.area.specs.Start.{startAnswer, startArea};
 pub fn in_shape(words: &[u16], matrix: &[u8], area: &[u16]) -> bool
     ensures { λ r. ⌜ r ≡ inShape (now (words .entry)) (now (matrix .entry)) (now (area .entry)) ⌝ }
 {
-    if !shape::grammar_in_shape(words, matrix) {
+    let readable = shape::grammar_in_shape(words, matrix) & shape::sized(area);
+    if !readable {
         return false;
     }
-    shape::area_in_shape(area, words[0], words[1])
+    shape::walk_fits(area, shape::walk_table(area, words[0], words[1]))
 }
 
 // Starts a row: checks 15 (of the grammar and the matrix), 7, 8, 9, 10 and 11, and writes the row's words into the area, over whatever
@@ -24,9 +25,10 @@ pub fn start(words: &[u16], matrix: &[u8], tokens: &[u16], cuts: &[u16], area: &
     ensures answers { λ r. ⌜ r ≡ startAnswer (now (words .entry)) (now (matrix .entry)) (now (tokens .entry)) (now (cuts .entry)) (length (now (area .entry))) ⌝ }
     ensures leaves { λ _. ⌜ now (area .exit) ≡ startArea (now (words .entry)) (now (matrix .entry)) (now (tokens .entry)) (now (cuts .entry)) (now (area .entry)) ⌝ }
 {
-    if let Answer::Refused(refusal) = begin::check(words, matrix, tokens, cuts, area.len()) {
-        return Answer::Refused(refusal);
+    let answer = begin::check(words, matrix, tokens, cuts, area.len());
+    if let Answer::Refused(_) = answer {
+        return answer;
     }
     begin::write(area, tokens, cuts);
-    Answer::Done
+    answer
 }

@@ -1,16 +1,17 @@
 // The shape rules of docs/AREA.md, checked in one pass over the lent words and bytes.
-// Each function is one definition of specs/Shape.antt, of which its contract is the equation.
+// Each function is a definition of specs/Shape.antt, or some of them joined, of which its contract is the equation.
 // Tests are joined by `&` and `|`, so that a function of many tests has one way through it.
 use language::Answer;
+ghost use mathlib.Core.Bool.{false};
 ghost use mathlib.Core.Path.{_≡_};
 ghost use Prim.Native.Nat.{_+_, _*_, _-_, _≤_, _<_, _^_, pred};
-ghost use lib.Dec.{eqb};
 ghost use lib.ListN.{length, getD, drop};
 ghost use Rattle.laws.specs.Picks.{pick};
-ghost use Rattle.area.specs.Shape.{ruleC, symbolFits, placeFits, tag, oneIfTerminal, broken, opened, inner, scanSlot, side, sideFits};
-ghost use Rattle.area.specs.Shape.{statusFits, goneFits, boundsFit, stuckFits, sidesFit, fallen, counted, liveLine, lineOf, walkOf};
-ghost use Rattle.area.specs.Shape.{firstFits, endFits, ruleI, potentialOf, ruleJ, blank, ruleK, walkFits, areaInShape};
-ghost use Rattle.area.specs.Shape.{byteFits, ruleB, grammarInShape};
+ghost use Rattle.area.specs.Layout.{slotsAt};
+ghost use Rattle.area.specs.Shape.{ruleC, symbolFits, placeFits, tag, broken, opened, inner, scanSlot, side};
+ghost use Rattle.area.specs.Shape.{statusFits, boundsFit, sidesFit, fallen, counted, liveLine, lineOf, walkOf};
+ghost use Rattle.area.specs.Shape.{endFits, potentialOf, ruleJ, blank, ruleK, walkFits};
+ghost use Rattle.area.specs.Shape.{byteFits, grammarInShape};
 ghost use Rattle.area.specs.ShapeCode.{rowFits, Sized, Few, Within, Countable};
 
 // Where a scan of one side of a chunk stands: within a symbol of `size` slots, `within` of them to come; how many symbols,
@@ -36,20 +37,30 @@ pub struct Walk {
     pub terminals: u16,
 }
 
-// A word as an index, and as a summand.
-fn wide(x: u16) -> usize
+// The word at place i.
+pub fn word(words: &[u16], i: usize) -> u16
+    requires { ⌜ i < length (now words) ⌝ }
+    ensures { λ r. ⌜ r ≡ getD (now (words .entry)) i 0 ⌝ }
+{
+    words[i]
+}
+
+// A word as an index or a summand.
+pub fn wide(x: u16) -> usize
     ensures { λ r. ⌜ (r ≡ x) × (r < 65536) ⌝ }
 {
     x as usize
 }
 
-fn long(x: u16) -> u64
-    ensures { λ r. ⌜ (r ≡ x) × (r < 65536) ⌝ }
+// The word at place i as an index or a summand.
+fn wide_word(words: &[u16], i: usize) -> usize
+    requires { ⌜ i < length (now words) ⌝ }
+    ensures { λ r. ⌜ (r ≡ getD (now (words .entry)) i 0) × (r < 65536) ⌝ }
 {
-    x as u64
+    words[i] as usize
 }
 
-// ---- (b) the matrix
+// ---- (a) the grammar words, (b) the matrix
 
 // A byte of the matrix, a over b, of a grammar with t terminals: 0 past t; # over # is 2; # over b is 0 or 1; a over # is 0 or 3;
 // any other 0 to 3.
@@ -88,13 +99,17 @@ fn row_fits(matrix: &[u8], t: u16, a: u16) -> bool
     true
 }
 
-// The matrix keeps the shape rules, of a grammar with t terminals.
-pub fn matrix_in_shape(matrix: &[u8], t: u16) -> bool
-    ensures { λ r. ⌜ r ≡ ruleB t (now (matrix .entry)) ⌝ }
+// The grammar words and the matrix keep the shape rules: (a) the words pass 1 to 3, (b) the matrix has its bytes, and each row of them fits.
+pub fn grammar_in_shape(words: &[u16], matrix: &[u8]) -> bool
+    ensures { λ r. ⌜ r ≡ grammarInShape (now (words .entry)) (now (matrix .entry)) ⌝ }
 {
+    if let Answer::Refused(_) = table::check_symbols(words) {
+        return false;
+    }
     if matrix.len() < 4096 {
         return false;
     }
+    let t = words[0];
     let mut a = 0;
     while a < 64 {
         if !row_fits(matrix, t, a) {
@@ -105,33 +120,31 @@ pub fn matrix_in_shape(matrix: &[u8], t: u16) -> bool
     true
 }
 
-// The grammar words and the matrix keep the shape rules.
-pub fn grammar_in_shape(words: &[u16], matrix: &[u8]) -> bool
-    ensures { λ r. ⌜ r ≡ grammarInShape (now (words .entry)) (now (matrix .entry)) ⌝ }
-{
-    if let Answer::Refused(_) = table::check_symbols(words) {
-        return false;
-    }
-    matrix_in_shape(matrix, words[0])
-}
-
 // ---- (c) the sizes
 
 // n in 1..16,384, C in 1..64, the area at least need(n, C) words.
-fn sized(area: &[u16]) -> bool
+pub fn sized(area: &[u16]) -> bool
     ensures { λ r. ⌜ r ≡ ruleC (now (area .entry)) ⌝ }
 {
     let len = area.len();
     if len < 13 {
         return false;
     }
-    let tokens = area[0];
-    let count = area[1];
+    let tokens = wide_word(area, 0);
+    let count = wide_word(area, 1);
     (1 <= tokens)
         & (tokens <= 16384)
         & (1 <= count)
         & (count <= 64)
-        & (7 * wide(tokens) + 5 * wide(count) + 13 <= len)
+        & (7 * tokens + 5 * count + 13 <= len)
+}
+
+// The word at which this slot starts.
+fn slot_at(area: &[u16], slot: usize) -> usize
+    requires { ⌜ Sized (now area) × (slot < 65536) ⌝ }
+    ensures { λ r. ⌜ r ≡ slotsAt (now (area .entry)) + 4 * slot ⌝ }
+{
+    5 + 5 * wide_word(area, 1) + 4 * slot
 }
 
 // ---- (f) one side of a chunk
@@ -146,28 +159,19 @@ fn symbol_fits(t: u16, n: u16, s: u16, m: u16) -> bool
 
 // Symbol s of l slots at this slot: # in slots 0 and n+1 and nowhere else, one slot long.
 fn place_fits(tokens: u16, slot: u16, s: u16, l: u16) -> bool
-    requires { ⌜ tokens ≤ 16384 ⌝ }
+    requires { ⌜ (tokens ≤ 16384) × (slot ≤ tokens + 1) ⌝ }
     ensures { λ r. ⌜ r ≡ placeFits tokens slot s l ⌝ }
 {
-    let edge = (slot == 0) | (slot == tokens + 1);
-    (edge & (s == 0) & (l == 1)) | (!edge & (s != 0) & (wide(slot) + wide(l) <= wide(tokens) + 1))
+    let last = tokens + 1;
+    let edge = (slot == 0) | (slot == last);
+    (edge & (s == 0) & (l == 1)) | (!edge & (s != 0) & (l <= last - slot))
 }
 
-// The last word of a slot, k slots before the end of its symbol, which has l slots.
+// The last word of a slot from which on its symbol, of l slots, has k: 0, but for the last slot.
 fn tag_of(k: u16, l: u16) -> u16
-    ensures { λ r. ⌜ r ≡ tag k l ⌝ }
+    ensures { λ r. ⌜ r ≡ tag (k - 1) l ⌝ }
 {
-    if k == 0 { l } else { 0 }
-}
-
-// 1 for a terminal other than #.
-fn one_if_terminal(s: u16) -> u16
-    ensures { λ r. ⌜ (r ≡ oneIfTerminal s) × (r ≤ 1) ⌝ }
-{
-    if s == 0 {
-        return 0;
-    }
-    if s < 256 { 1 } else { 0 }
+    if k <= 1 { l } else { 0 }
 }
 
 // A scan that has met a wrong word.
@@ -196,23 +200,23 @@ fn open_symbol(
     l: u16,
     b: u16,
 ) -> Scan
-    requires { ⌜ (n ≤ 64) × (tokens ≤ 16384) × Few 16386 st ⌝ }
+    requires { ⌜ (n ≤ 64) × (tokens ≤ 16384) × Few 16386 st × (slot ≤ tokens + 1) ⌝ }
     ensures { λ r. ⌜ r ≡ opened t n tokens slot st s m l b ⌝ }
 {
-    if l == 0 {
-        return break_off();
-    }
-    let fits = symbol_fits(t, n, s, m) & place_fits(tokens, slot, s, l) & (b == tag_of(l - 1, l));
+    let fits = (l != 0)
+        & symbol_fits(t, n, s, m)
+        & place_fits(tokens, slot, s, l)
+        & (b == tag_of(l, l));
     if !fits {
         return break_off();
     }
-    let more = one_if_terminal(s);
+    let terminal = (s != 0) & (s < 256);
     Scan {
         ok: true,
         within: l - 1,
         size: l,
         symbols: st.symbols + 1,
-        terminals: st.terminals + more,
+        terminals: st.terminals + terminal as u16,
         marks: st.marks + m,
     }
 }
@@ -222,7 +226,7 @@ fn inside(st: Scan, s: u16, m: u16, l: u16, b: u16) -> Scan
     requires { ⌜ 0 < st .within ⌝ }
     ensures { λ r. ⌜ r ≡ inner st s m l b ⌝ }
 {
-    let fits = (s == 0) & (m == 0) & (l == 0) & (b == tag_of(st.within - 1, st.size));
+    let fits = (s == 0) & (m == 0) & (l == 0) & (b == tag_of(st.within, st.size));
     if !fits {
         return break_off();
     }
@@ -248,7 +252,7 @@ fn scan_slot(
     l: u16,
     b: u16,
 ) -> Scan
-    requires { ⌜ (n ≤ 64) × (tokens ≤ 16384) × Few 16386 st ⌝ }
+    requires { ⌜ (n ≤ 64) × (tokens ≤ 16384) × Few 16386 st × (slot ≤ tokens + 1) ⌝ }
     ensures { λ r. ⌜ r ≡ scanSlot t n tokens slot st s m l b ⌝ }
 {
     if st.ok {
@@ -265,8 +269,7 @@ fn side(area: &[u16], t: u16, n: u16, from: u16, to: u16) -> Scan
     requires { ⌜ (n ≤ 64) × Sized (now area) × (to ≤ getD (now area) 0 0 + 2) ⌝ }
     ensures { λ r. ⌜ r ≡ side t n (now (area .entry)) from to ⌝ }
 {
-    let tokens = area[0];
-    let base = 5 + 5 * wide(area[1]);
+    let tokens = word(area, 0);
     let mut st = Scan {
         ok: true,
         within: 0,
@@ -275,7 +278,7 @@ fn side(area: &[u16], t: u16, n: u16, from: u16, to: u16) -> Scan
         terminals: 0,
         marks: 0,
     };
-    let mut at = base + 4 * wide(from);
+    let mut at = slot_at(area, wide(from));
     let mut slot = from;
     while slot < to {
         st = scan_slot(
@@ -284,10 +287,10 @@ fn side(area: &[u16], t: u16, n: u16, from: u16, to: u16) -> Scan
             tokens,
             slot,
             st,
-            area[at],
-            area[at + 1],
-            area[at + 2],
-            area[at + 3],
+            word(area, at),
+            word(area, at + 1),
+            word(area, at + 2),
+            word(area, at + 3),
         );
         at += 4;
         slot += 1;
@@ -295,59 +298,28 @@ fn side(area: &[u16], t: u16, n: u16, from: u16, to: u16) -> Scan
     st
 }
 
-// Whole symbols.
-fn side_fits(st: Scan) -> bool
-    ensures { λ r. ⌜ r ≡ sideFits st ⌝ }
-{
-    st.ok & (st.within == 0)
-}
-
 // ---- (d) to (h) of one chunk
 
-// (d) 1 running; 17 to 20 stuck so.
-fn status_fits(x: u16) -> bool
-    ensures { λ r. ⌜ r ≡ statusFits x ⌝ }
-{
-    if x == 1 {
-        return true;
-    }
-    if x < 17 {
-        return false;
-    }
-    x <= 20
-}
-
-// (d) A gone chunk's row is zeros.
-fn gone_fits(f: u16, h: u16, e: u16, y: u16) -> bool
-    ensures { λ r. ⌜ r ≡ goneFits f h e y ⌝ }
-{
-    (f == 0) & (h == 0) & (e == 0) & (y == 0)
-}
-
+// (d) A live chunk's status: 1 running; 17 to 20 stuck so.
 // (e) From is the end of the live chunk before it and at most n+1; from, head, end in order, the end at most n+2.
-fn bounds_fit(tokens: u16, at: u16, f: u16, h: u16, e: u16) -> bool
+fn bounds_fit(tokens: u16, at: u16, x: u16, f: u16, h: u16, e: u16) -> bool
     requires { ⌜ tokens ≤ 16384 ⌝ }
-    ensures { λ r. ⌜ r ≡ boundsFit tokens at f h e ⌝ }
+    ensures { λ r. ⌜ r ≡ pick (statusFits x) (boundsFit tokens at f h e) false ⌝ }
 {
-    (f == at) & (f <= tokens + 1) & (f <= h) & (h <= e) & (e <= tokens + 2)
+    ((x == 1) | (!(x < 17) & (x <= 20)))
+        & ((f == at) & (f <= tokens + 1) & (f <= h) & (h <= e) & (e <= tokens + 2))
 }
 
-// (h) A stuck chunk has something unread, one stuck with 18 has a mark.
-fn stuck_fits(x: u16, h: u16, e: u16, y: u16) -> bool
-    ensures { λ r. ⌜ r ≡ stuckFits x h e y ⌝ }
-{
-    (x == 1) | ((h < e) & ((x != 18) | (1 <= y)))
-}
-
-// (f), (g) and (h) of a live chunk, from the scans of its stack and of its unread side.
+// Of a live chunk, from the scans of its stack and of its unread side: (f) each is whole symbols, (g) the marks are those on the stack,
+// (h) a stuck chunk has something unread, one stuck with 18 has a mark.
 fn sides_fit(stack: Scan, unread: Scan, x: u16, h: u16, e: u16, y: u16) -> bool
     ensures { λ r. ⌜ r ≡ sidesFit stack unread x h e y ⌝ }
 {
-    side_fits(stack)
-        & side_fits(unread)
+    (stack.ok & (stack.within == 0))
+        & (unread.ok & (unread.within == 0))
         & (unread.marks == 0)
         & (y == stack.marks)
-        & stuck_fits(x, h, e, y)
+        & ((x == 1) | ((h < e) & ((x != 18) | (1 <= y))))
 }
 
 // A walk that has met a wrong row.
@@ -365,24 +337,17 @@ fn fall() -> Walk
     }
 }
 
-// 1 for a chunk that is not stuck.
-fn one_if_running(x: u16) -> u16
-    ensures { λ r. ⌜ (r ≡ pick (eqb x 1) 1 0) × (r ≤ 1) ⌝ }
-{
-    if x == 1 { 1 } else { 0 }
-}
-
 // A live chunk's counts added.
 fn count_in(w: Walk, stack: Scan, unread: Scan, x: u16, e: u16) -> Walk
     requires { ⌜ Countable 63 e w stack unread ⌝ }
     ensures { λ r. ⌜ r ≡ counted w stack unread x e ⌝ }
 {
-    let more = one_if_running(x);
+    let running = x == 1;
     Walk {
         ok: true,
         at: e,
         live: w.live + 1,
-        running: w.running + more,
+        running: w.running + running as u16,
         unread: w.unread + unread.symbols,
         symbols: w.symbols + stack.symbols + unread.symbols,
         terminals: w.terminals + stack.terminals + unread.terminals,
@@ -394,9 +359,7 @@ fn live_line(area: &[u16], t: u16, n: u16, w: Walk, x: u16, f: u16, h: u16, e: u
     requires { ⌜ (n ≤ 64) × Sized (now area) × Within 63 w ⌝ }
     ensures { λ r. ⌜ r ≡ liveLine t n (now (area .entry)) w x f h e y ⌝ }
 {
-    let at = w.at;
-    let fits = status_fits(x) & bounds_fit(area[0], at, f, h, e);
-    if !fits {
+    if !bounds_fit(word(area, 0), w.at, x, f, h, e) {
         return fall();
     }
     let stack = side(area, t, n, f, h);
@@ -407,29 +370,26 @@ fn live_line(area: &[u16], t: u16, n: u16, w: Walk, x: u16, f: u16, h: u16, e: u
     count_in(w, stack, unread, x, e)
 }
 
-// One row of the table more.
+// One row of the table more. (d) A gone chunk's row is zeros.
 fn line(area: &[u16], t: u16, n: u16, w: Walk, x: u16, f: u16, h: u16, e: u16, y: u16) -> Walk
     requires { ⌜ (n ≤ 64) × Sized (now area) × Within 63 w ⌝ }
     ensures { λ r. ⌜ r ≡ lineOf t n (now (area .entry)) w x f h e y ⌝ }
 {
-    if w.ok {
-        if x == 0 {
-            if gone_fits(f, h, e, y) {
-                return w;
-            }
-            return fall();
-        }
+    if w.ok & (x != 0) {
         return live_line(area, t, n, w, x, f, h, e, y);
+    }
+    if w.ok & ((f == 0) & (h == 0) & (e == 0) & (y == 0)) {
+        return w;
     }
     fall()
 }
 
 // (d) to (h) of every chunk.
-fn walk_table(area: &[u16], t: u16, n: u16) -> Walk
+pub fn walk_table(area: &[u16], t: u16, n: u16) -> Walk
     requires { ⌜ (n ≤ 64) × Sized (now area) ⌝ }
     ensures { λ r. ⌜ r ≡ walkOf t n (now (area .entry)) ⌝ }
 {
-    let count = wide(area[1]);
+    let count = wide_word(area, 1);
     let mut w = Walk {
         ok: true,
         at: 0,
@@ -447,11 +407,11 @@ fn walk_table(area: &[u16], t: u16, n: u16) -> Walk
             t,
             n,
             w,
-            area[at],
-            area[at + 1],
-            area[at + 2],
-            area[at + 3],
-            area[at + 4],
+            word(area, at),
+            word(area, at + 1),
+            word(area, at + 2),
+            word(area, at + 3),
+            word(area, at + 4),
         );
         at += 5;
         i += 1;
@@ -461,44 +421,27 @@ fn walk_table(area: &[u16], t: u16, n: u16) -> Walk
 
 // ---- (d) to (k) of the whole
 
-// (d) Chunk 0 is live, with at least one stack slot.
-fn first_fits(area: &[u16]) -> bool
-    requires { ⌜ Sized (now area) ⌝ }
-    ensures { λ r. ⌜ r ≡ firstFits (now (area .entry)) ⌝ }
-{
-    (area[5] != 0) & (1 <= area[7])
-}
-
 // (e) The last live chunk's end is n+2, or n+1 if chunk 0 is the only live chunk and its head is n+1.
 fn end_fits(area: &[u16], w: Walk) -> bool
     requires { ⌜ Sized (now area) ⌝ }
     ensures { λ r. ⌜ r ≡ endFits (now (area .entry)) w ⌝ }
 {
-    let tokens = area[0];
-    let head = area[7];
-    (w.at == tokens + 2) | ((w.at == tokens + 1) & (w.live == 1) & (head == tokens + 1))
-}
-
-// (i) The reductions made and the terminals other than # are at most n.
-fn rule_i(area: &[u16], w: Walk) -> bool
-    requires { ⌜ Sized (now area) ⌝ }
-    ensures { λ r. ⌜ r ≡ ruleI (now (area .entry)) w ⌝ }
-{
-    long(area[4]) + long(w.terminals) <= long(area[0])
+    let last = word(area, 0) + 1;
+    (w.at == last + 1) | ((w.at == last) & (w.live == 1) & (word(area, 7) == last))
 }
 
 // One less, and 0 of 0.
-fn one_less(x: u16) -> u64
+fn one_less(x: u16) -> usize
     ensures { λ r. ⌜ (r ≡ pred x) × (r < 65536) ⌝ }
 {
     if x == 0 {
         return 0;
     }
-    long(x - 1)
+    wide(x - 1)
 }
 
 // The product of two words.
-fn times(x: u64, y: u64) -> u64
+fn times(x: usize, y: usize) -> usize
     requires { ⌜ (x < 65536) × (y < 65536) ⌝ }
     ensures { λ r. ⌜ (r ≡ x * y) × (r < 2 ^ 32) ⌝ }
 {
@@ -506,15 +449,15 @@ fn times(x: u64, y: u64) -> u64
 }
 
 // The most moves that can still come.
-fn potential(w: Walk) -> u64
+fn potential(w: Walk) -> usize
     ensures { λ r. ⌜ (r ≡ potentialOf w) × (r < 2 ^ 33) ⌝ }
 {
     let others = one_less(w.live);
-    long(w.unread)
+    wide(w.unread)
         + times(one_less(w.symbols), others)
-        + long(w.terminals)
+        + wide(w.terminals)
         + 2 * others
-        + long(w.running)
+        + wide(w.running)
 }
 
 // (j) The moves made, and the most that can still come.
@@ -522,10 +465,10 @@ fn rule_j(area: &[u16], w: Walk) -> bool
     requires { ⌜ Sized (now area) ⌝ }
     ensures { λ r. ⌜ r ≡ ruleJ (now (area .entry)) w ⌝ }
 {
-    let tokens = long(area[0]);
-    let count = long(area[1]);
-    let low = long(area[2]);
-    let high = long(area[3]);
+    let tokens = wide_word(area, 0);
+    let count = wide_word(area, 1);
+    let low = wide_word(area, 2);
+    let high = wide_word(area, 3);
     low + 65536 * high + potential(w) <= times(tokens, count) + tokens + 4 * count - 2
 }
 
@@ -549,33 +492,22 @@ fn rule_k(area: &[u16], w: Walk) -> bool
     requires { ⌜ Sized (now area) ⌝ }
     ensures { λ r. ⌜ r ≡ ruleK (now (area .entry)) w ⌝ }
 {
-    let tokens = wide(area[0]);
-    let base = 5 + 5 * wide(area[1]);
-    let made = base + 4 * (tokens + 2);
-    blank(area, base + 4 * wide(w.at), made)
-        & blank(area, made + 3 * wide(area[4]), made + 3 * tokens)
+    let tokens = wide_word(area, 0);
+    let made = slot_at(area, tokens + 2);
+    blank(area, slot_at(area, wide(w.at)), made)
+        & blank(area, made + 3 * wide_word(area, 4), made + 3 * tokens)
 }
 
-// (d) to (k), from a walk of the table.
-fn walk_fits(area: &[u16], w: Walk) -> bool
+// (d) to (k), from a walk of the table: among them (d) chunk 0 is live, with at least one stack slot, and (i) the reductions made and
+// the terminals other than # are at most n.
+pub fn walk_fits(area: &[u16], w: Walk) -> bool
     requires { ⌜ Sized (now area) ⌝ }
     ensures { λ r. ⌜ r ≡ walkFits (now (area .entry)) w ⌝ }
 {
     w.ok
-        & first_fits(area)
+        & ((word(area, 5) != 0) & (1 <= word(area, 7)))
         & end_fits(area, w)
-        & rule_i(area, w)
+        & (wide_word(area, 4) + wide(w.terminals) <= wide_word(area, 0))
         & rule_j(area, w)
         & rule_k(area, w)
-}
-
-// The area keeps the shape rules, of a grammar with t terminals and n nonterminals.
-pub fn area_in_shape(area: &[u16], t: u16, n: u16) -> bool
-    requires { ⌜ n ≤ 64 ⌝ }
-    ensures { λ r. ⌜ r ≡ areaInShape t n (now (area .entry)) ⌝ }
-{
-    if !sized(area) {
-        return false;
-    }
-    walk_fits(area, walk_table(area, t, n))
 }

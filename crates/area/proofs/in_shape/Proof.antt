@@ -1,49 +1,69 @@
--- `in_shape` meets its contract: words that pass 1 to 3 have a head, with T at most 63 and N at most 64.
-use mathlib.Core.Path.{sym, _∙_}
-use borrow.Author.Tests.{not-true, not-false}
+-- `in_shape` meets its contract: words that pass 1 to 3 have a head, with T at most 63 and N at most 64; the walk reads within sized words only.
+use mathlib.Core.Path.{_≡_, ap, _∙_}
+use mathlib.Core.Bool.{true}
 use native.Mathlib.Omega.{arith}
 use Prim.Native.Nat.{_≤_}
 use lib.ListN.{length}
 use Rattle.language.specs.Words.{countT, countN}
-use Rattle.area.specs.Shape.{inShape}
+use Rattle.area.specs.Shape.{walkFits, grammarInShape, ruleC}
+use Rattle.area.specs.ShapeCode.{Sized}
 use Rattle.area.specs.EndMarkOfShape.{grammar-in-shape}
-use Rattle.area.proofs.ShapeLaw.{headed}
+use Rattle.area.proofs.Joined.{kept-both}
+use Rattle.area.proofs.ShapeLaw.{headed, sized-of, shape-left, shape-kept}
 use Rattle.area.proofs.in_shape.Statement.{statement}
 use Rattle.area.proofs.in_shape.Tie as tie
 
--- past the test of grammar and matrix
-head : (c : tie.Else1) → let words = c .before .before .before .before .before .args .words .now in (4 ≤ length words) × (countT words ≤ 63) × (countN words ≤ 64)
+-- past the tests of grammar, matrix and sizes
+readable : (c : tie.Else1) → let a = c .before .before .before .before .before .before .args in (grammarInShape (a .words .now) (a .matrix .now) ≡ true) × (ruleC (a .area .now) ≡ true)
+readable c = kept-both _ _ (rw (c .before .before .grammar-in-shape .ensures, c .before .sized .ensures) at (c .if1 .left))
+
+head : (c : tie.Else1) → let words = c .before .before .before .before .before .before .args .words .now in (4 ≤ length words) × (countT words ≤ 63) × (countN words ≤ 64)
 head c =
-    let a = c .before .before .before .before .before .args in
-    headed (a .words .now) (grammar-in-shape (a .words .now) (a .matrix .now) (sym (c .before .grammar-in-shape .ensures) ∙ not-false _ (c .if1 .left)) .0)
+    let a = c .before .before .before .before .before .before .args in
+    headed (a .words .now) (grammar-in-shape (a .words .now) (a .matrix .now) (readable c .0) .0)
+
+sized : (c : tie.Else1) → Sized (c .before .before .before .before .before .before .args .area .now)
+sized c = sized-of (c .before .before .before .before .before .before .args .area .now) (readable c .1)
 
 grammar-in-shape-requires : tie.Need-grammar-in-shape-requires
 grammar-in-shape-requires c κs = tt
 
+sized-requires : tie.Need-sized-requires
+sized-requires c κs = tt
+
 returns : tie.Need-returns
-unfolding inShape
-returns c = simp (sym (c .before .grammar-in-shape .ensures) ∙ not-true _ (c .if1 .taken))
+returns c =
+    let a = c .before .before .before .before .before .before .args in
+    shape-left (a .words .now) (a .matrix .now) (a .area .now) (rw (c .before .before .grammar-in-shape .ensures, c .before .sized .ensures) at (c .if1 .taken))
 
-shared-slice-read-area-in-shape : tie.Need-shared-slice-read-area-in-shape
-shared-slice-read-area-in-shape c = omega (arith, head (c .before))
+shared-slice-read-walk-table : tie.Need-shared-slice-read-walk-table
+shared-slice-read-walk-table c = omega (arith, head (c .before))
 
-shared-slice-read-area-in-shape-2 : tie.Need-shared-slice-read-area-in-shape-2
-shared-slice-read-area-in-shape-2 c = omega (arith, head (c .before .before))
+shared-slice-read-walk-table-2 : tie.Need-shared-slice-read-walk-table-2
+shared-slice-read-walk-table-2 c = omega (arith, head (c .before .before))
 
-area-in-shape-requires : tie.Need-area-in-shape-requires
-area-in-shape-requires c κs = head (c .before .before) .2
+walk-table-requires : tie.Need-walk-table-requires
+walk-table-requires c κs = (head (c .before .before) .2, sized (c .before .before))
+
+walk-fits-requires : tie.Need-walk-fits-requires
+walk-fits-requires c κs = sized (c .before .before .before)
 
 returns-2 : tie.Need-returns-2
-unfolding inShape
-returns-2 c = simp (sym (c .before .before .before .before .grammar-in-shape .ensures) ∙ not-false _ (c .before .before .before .if1 .left)) (c .area-in-shape .ensures)
+returns-2 c =
+    let a = c .before .before .before .before .before .before .before .before .before .before .args in
+    c .walk-fits .ensures
+    ∙ ap (walkFits (a .area .now)) (c .before .walk-table .ensures)
+    ∙ shape-kept (a .words .now) (a .matrix .now) (a .area .now) (readable (c .before .before .before .before) .0) (readable (c .before .before .before .before) .1)
 
 pub in-shape-spec : {M : Type 1} → statement M
 in-shape-spec =
     tie.close
     (tie.spec
     grammar-in-shape-requires
+    sized-requires
     returns
-    shared-slice-read-area-in-shape
-    shared-slice-read-area-in-shape-2
-    area-in-shape-requires
+    shared-slice-read-walk-table
+    shared-slice-read-walk-table-2
+    walk-table-requires
+    walk-fits-requires
     returns-2)

@@ -1,35 +1,34 @@
 -- `start` answers what the checks answer; where they pass it writes the row's words, and else nothing.
 use mathlib.Core.Path.{_≡_, sym, _∙_}
-use borrow.Author.Needs.{needs}
 use lib.ListN.{length}
-use Rattle.language.specs.declared.Answer.the-variants.{Done, Refused}
+use Rattle.language.specs.declared.Answer.the-variants.{Done}
 use Rattle.area.specs.Start.{startAnswer}
 use Rattle.area.specs.StartChecks.{writable}
 use Rattle.area.proofs.StartLaw.{area-kept, area-started}
+use borrow.Author.Needs.{needs}
 use Rattle.area.proofs.start.Statement.{statement}
 use Rattle.area.proofs.start.Tie as tie
+
+-- past the checks
+done : (c : tie.After-enum-told2) → let a = c .before .before .before .before .before .before .before .before .args in startAnswer (a .words .now) (a .matrix .now) (a .tokens .now) (a .cuts .now) (length (a .area .now)) ≡ Done
+done c = sym (c .before .before .check .ensures) ∙ c .enum-told2 .given .1
 
 check-requires : tie.Need-check-requires
 check-requires c κs = tt
 
-enum-known-refusal : tie.Need-enum-known-refusal
-enum-known-refusal c = search needs
-
-returns : tie.Need-returns
-returns c =
-    let a = c .before .before .before .before .before .before .before .before .before .args in
-    let why = c .before .refusal .given .0 .0 in
-    let e : Refused why ≡ startAnswer (a .words .now) (a .matrix .now) (a .tokens .now) (a .cuts .now) (length (a .area .now)) = sym (c .before .refusal .given .1) ∙ c .before .before .before .check .ensures in
-    (e, sym (area-kept (a .words .now) (a .matrix .now) (a .tokens .now) (a .cuts .now) (a .area .now) why (sym e)))
-
 enum-told : tie.Need-enum-told
 enum-told c = search needs
 
+returns : tie.Need-returns
+returns c =
+    let a = c .before .before .before .before .before .before .before .before .args in
+    (c .before .before .check .ensures, sym (area-kept (a .words .now) (a .matrix .now) (a .tokens .now) (a .cuts .now) (a .area .now) _ (sym (c .before .before .check .ensures) ∙ c .enum-told .given .1)))
+
+enum-told-2 : tie.Need-enum-told-2
+enum-told-2 c = search needs
+
 write-requires : tie.Need-write-requires
-write-requires c κs =
-    let a = c .before .before .before .before .before .before .before .before .before .args in
-    let e : startAnswer (a .words .now) (a .matrix .now) (a .tokens .now) (a .cuts .now) (length (a .area .now)) ≡ Done = sym (c .before .before .before .check .ensures) ∙ c .before .enum-told .given .1 in
-    writable (a .words .now) (a .matrix .now) (a .tokens .now) (a .cuts .now) (length (a .area .now)) e
+write-requires c κs = let a = c .before .before .before .before .before .before .before .before .before .args in writable (a .words .now) (a .matrix .now) (a .tokens .now) (a .cuts .now) (length (a .area .now)) (done (c .before))
 
 same-length : tie.Need-same-length
 same-length c = search needs
@@ -37,17 +36,16 @@ same-length c = search needs
 returns-2 : tie.Need-returns-2
 returns-2 c =
     let a = c .before .before .before .before .before .before .before .before .before .before .before .before .args in
-    let e : startAnswer (a .words .now) (a .matrix .now) (a .tokens .now) (a .cuts .now) (length (a .area .now)) ≡ Done = sym (c .before .before .before .before .before .before .check .ensures) ∙ c .before .before .before .before .enum-told .given .1 in
-    (sym e, c .before .before .write .ensures ∙ area-started (a .words .now) (a .matrix .now) (a .tokens .now) (a .cuts .now) (a .area .now) e)
+    (c .before .before .before .before .before .before .check .ensures, c .before .before .write .ensures ∙ area-started (a .words .now) (a .matrix .now) (a .tokens .now) (a .cuts .now) (a .area .now) (done (c .before .before .before .before)))
 
 pub start-spec : {M : Type 1} → statement M
 start-spec =
     tie.close
     (tie.spec
     check-requires
-    enum-known-refusal
-    returns
     enum-told
+    returns
+    enum-told-2
     write-requires
     same-length
     returns-2)

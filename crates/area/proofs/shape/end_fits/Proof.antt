@@ -1,34 +1,26 @@
 -- `shape::end_fits` meets its contract: the tests of `endFits`, joined.
 use Rattle.area.proofs.Joined.{end-tests}
+use lib.Dec.{lit<}
+use Rattle.area.proofs.ShapeLaw.{front-word}
+---
 use borrow.Author.Needs.{needs}
 use Rattle.area.proofs.shape.end_fits.Statement.{statement}
 use Rattle.area.proofs.shape.end_fits.Tie as tie
 
-shared-slice-read-tokens : tie.Need-shared-slice-read-tokens
-shared-slice-read-tokens c = search needs
+word-requires : tie.Need-word-requires
+word-requires c κs = front-word (c .before .pre) (lit< tt)
 
-shared-slice-read-head : tie.Need-shared-slice-read-head
-shared-slice-read-head c = search needs
+add-last : tie.Need-add-last
+add-last c = search needs
 
 add-result : tie.Need-add-result
 add-result c = search needs
 
-add-result-2 : tie.Need-add-result-2
-add-result-2 c = search needs
-
-add-result-3 : tie.Need-add-result-3
-add-result-3 c = search needs
+word-requires-2 : tie.Need-word-requires-2
+word-requires-2 c κs = front-word (c .before .before .before .before .before .pre) (lit< tt)
 
 returns : tie.Need-returns
-returns c = end-tests (c .before .before .before .before .before .args .area .now) (c .before .before .before .before .before .args .w)
+returns c = end-tests (c .before .before .before .before .before .before .args .area .now) (c .before .before .before .before .before .before .args .w) (c .before .before .before .before .word .ensures) (c .word2 .ensures)
 
 pub end-fits-spec : {M : Type 1} → statement M
-end-fits-spec =
-    tie.close
-    (tie.spec
-    shared-slice-read-tokens
-    shared-slice-read-head
-    add-result
-    add-result-2
-    add-result-3
-    returns)
+end-fits-spec = tie.close (tie.spec word-requires add-last add-result word-requires-2 returns)

@@ -1,55 +1,46 @@
 -- `shape::rule_j` meets its contract: all sums are below 2^34.
+use lib.Dec.{lit<}
+use Rattle.area.proofs.ShapeLaw.{front-word, high-fits, moves-fit, all-moves-fit, product-fits, most-fits}
+---
 use borrow.Author.Needs.{needs}
 use Rattle.area.proofs.shape.rule_j.Statement.{statement}
 use Rattle.area.proofs.shape.rule_j.Tie as tie
 
-shared-slice-read-long : tie.Need-shared-slice-read-long
-shared-slice-read-long c = search needs
+wide-word-requires : tie.Need-wide-word-requires
+wide-word-requires c κs = front-word (c .before .pre) (lit< tt)
 
-long-requires : tie.Need-long-requires
-long-requires c κs = tt
+wide-word-requires-2 : tie.Need-wide-word-requires-2
+wide-word-requires-2 c κs = front-word (c .before .before .pre) (lit< tt)
 
-shared-slice-read-long-2 : tie.Need-shared-slice-read-long-2
-shared-slice-read-long-2 c = search needs
+wide-word-requires-3 : tie.Need-wide-word-requires-3
+wide-word-requires-3 c κs = front-word (c .before .before .before .pre) (lit< tt)
 
-long-requires-2 : tie.Need-long-requires-2
-long-requires-2 c κs = tt
-
-shared-slice-read-long-3 : tie.Need-shared-slice-read-long-3
-shared-slice-read-long-3 c = search needs
-
-long-requires-3 : tie.Need-long-requires-3
-long-requires-3 c κs = tt
-
-shared-slice-read-long-4 : tie.Need-shared-slice-read-long-4
-shared-slice-read-long-4 c = search needs
-
-long-requires-4 : tie.Need-long-requires-4
-long-requires-4 c κs = tt
+wide-word-requires-4 : tie.Need-wide-word-requires-4
+wide-word-requires-4 c κs = front-word (c .before .before .before .before .pre) (lit< tt)
 
 mul-result : tie.Need-mul-result
-mul-result c = search needs
+mul-result c = high-fits (c .before .wide-word3 .ensures .1) (c .wide-word4 .ensures .1)
 
 add-result : tie.Need-add-result
-add-result c = search needs
+add-result c = moves-fit (c .before .wide-word3 .ensures .1) (c .wide-word4 .ensures .1)
 
 potential-requires : tie.Need-potential-requires
 potential-requires c κs = tt
 
 add-result-2 : tie.Need-add-result-2
-add-result-2 c = search needs
+add-result-2 c = all-moves-fit (c .before .before .wide-word3 .ensures .1) (c .before .wide-word4 .ensures .1) (c .potential .ensures .1)
 
 times-requires : tie.Need-times-requires
-times-requires c κs = search needs
+times-requires c κs = (c .before .before .before .before .wide-word .ensures .1, c .before .before .before .wide-word2 .ensures .1)
 
 add-result-3 : tie.Need-add-result-3
-add-result-3 c = search needs
+add-result-3 c = product-fits (c .times .ensures .1) (c .before .before .before .before .before .wide-word .ensures .1) (c .before .before .before .before .wide-word2 .ensures .1)
 
 mul-result-2 : tie.Need-mul-result-2
 mul-result-2 c = search needs
 
 add-result-4 : tie.Need-add-result-4
-add-result-4 c = search needs
+add-result-4 c = most-fits (c .times .ensures .1) (c .before .before .before .before .before .wide-word .ensures .1) (c .before .before .before .before .wide-word2 .ensures .1)
 
 sub-result : tie.Need-sub-result
 sub-result c = search needs
@@ -58,10 +49,10 @@ returns : tie.Need-returns
 returns c =
     simp (
       c .times .ensures .0,
-      c .before .before .before .before .before .before .before .before .long .ensures .0,
-      c .before .before .before .before .before .before .long2 .ensures .0,
-      c .before .before .before .before .long3 .ensures .0,
-      c .before .before .long4 .ensures .0,
+      c .before .before .before .before .before .wide-word .ensures .0,
+      c .before .before .before .before .wide-word2 .ensures .0,
+      c .before .before .before .wide-word3 .ensures .0,
+      c .before .before .wide-word4 .ensures .0,
       c .before .potential .ensures .0,
     )
 
@@ -69,14 +60,10 @@ pub rule-j-spec : {M : Type 1} → statement M
 rule-j-spec =
     tie.close
     (tie.spec
-    shared-slice-read-long
-    long-requires
-    shared-slice-read-long-2
-    long-requires-2
-    shared-slice-read-long-3
-    long-requires-3
-    shared-slice-read-long-4
-    long-requires-4
+    wide-word-requires
+    wide-word-requires-2
+    wide-word-requires-3
+    wide-word-requires-4
     mul-result
     add-result
     potential-requires

@@ -6,7 +6,7 @@ use Rattle.area.proofs.shape.scan_slot.Statement.{statement}
 use Rattle.area.proofs.shape.scan_slot.Tie as tie
 
 open-symbol-requires : tie.Need-open-symbol-requires
-open-symbol-requires c κs = search needs
+open-symbol-requires c κs = c .before .before .before .pre
 
 returns : tie.Need-returns
 unfolding scanSlot

@@ -2,6 +2,7 @@
 use mathlib.Core.Path.{sym}
 use Rattle.area.proofs.ShapeLaw.{short}
 use Rattle.area.proofs.Joined.{sized-tests}
+---
 use borrow.Author.Needs.{needs}
 use Rattle.area.proofs.shape.sized.Statement.{statement}
 use Rattle.area.proofs.shape.sized.Tie as tie
@@ -9,20 +10,14 @@ use Rattle.area.proofs.shape.sized.Tie as tie
 returns : tie.Need-returns
 returns c = sym (short (c .before .before .args .area .now) (c .if1 .taken))
 
-shared-slice-read-tokens : tie.Need-shared-slice-read-tokens
-shared-slice-read-tokens c = search needs
+wide-word-requires : tie.Need-wide-word-requires
+wide-word-requires c κs = search needs
 
-shared-slice-read-count : tie.Need-shared-slice-read-count
-shared-slice-read-count c = search needs
-
-wide-requires : tie.Need-wide-requires
-wide-requires c κs = tt
+wide-word-requires-2 : tie.Need-wide-word-requires-2
+wide-word-requires-2 c κs = search needs
 
 mul-result : tie.Need-mul-result
 mul-result c = search needs
-
-wide-requires-2 : tie.Need-wide-requires-2
-wide-requires-2 c κs = tt
 
 mul-result-2 : tie.Need-mul-result-2
 mul-result-2 c = search needs
@@ -34,18 +29,16 @@ add-result-2 : tie.Need-add-result-2
 add-result-2 c = search needs
 
 returns-2 : tie.Need-returns-2
-returns-2 c = sized-tests (c .before .before .before .before .before .before .args .area .now) (c .before .wide .ensures .0) (c .wide2 .ensures .0)
+returns-2 c = sized-tests (c .before .before .before .before .args .area .now) (c .before .wide-word .ensures .0) (c .wide-word2 .ensures .0)
 
 pub sized-spec : {M : Type 1} → statement M
 sized-spec =
     tie.close
     (tie.spec
     returns
-    shared-slice-read-tokens
-    shared-slice-read-count
-    wide-requires
+    wide-word-requires
+    wide-word-requires-2
     mul-result
-    wide-requires-2
     mul-result-2
     add-result
     add-result-2
