@@ -5,3 +5,4 @@ pub mod Ready
 pub mod Searches
 pub mod Walks
 pub mod WholeStack
+pub mod Zeroing

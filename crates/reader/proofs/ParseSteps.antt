@@ -1,19 +1,17 @@
 -- What the steps of the module `parsing` read and write.
--- Main statements: copied-word, cleared-word (one turn of each loop); is-alone, written (the row's outcome).
+-- Main statements: copied-word (one turn of the loop); is-alone, written (the row's outcome).
 use mathlib.Core.Path.{_≡_, sym, ap, _∙_}
 use mathlib.Core.Bool.{true}
 use mathlib.Core.List.{List, _++_}
-use Prim.Native.Nat.{ℕ, suc, _+_, _*_, _-_, _<_}
-use native.Mathlib.Numerals.{add-one}
+use Prim.Native.Nat.{ℕ, _+_, _*_, _-_, _<_}
 use native.Mathlib.Omega.{arith}
-use lib.ListN.{length, getD, take, drop, set, length-drop, length-replicate}
-use lib.Seq.{drop-cons, set-at, getD-drop}
+use lib.ListN.{length, getD, take, drop, set, length-drop}
+use lib.Seq.{getD-drop}
 use Rattle.language.specs.Reports.{putInOrder, reportWords}
-use Rattle.area.specs.Layout.{zeros, madeAtWord, readMade}
+use Rattle.area.specs.Layout.{madeAtWord, readMade}
 use Rattle.report.specs.EntryWords.{entries-words}
 use Rattle.report.specs.OutcomeWords.{noneLive}
 use Rattle.report.proofs.OrderLaw.{put-word}
-use Rattle.reader.specs.BlockWords.{zeros-snoc}
 use Rattle.reader.specs.ParseLaws.{Finished}
 
 -- one word more, of those from word `at` on
@@ -22,11 +20,6 @@ pub copied-word : (area out : List ℕ) (at i : ℕ) → at + i < length area �
 copied-word area out at i h k =
     ap (λ w. set (take i (drop at area) ++ drop i out) i w) (sym (getD-drop at area i 0))
     ∙ put-word (drop at area) out i (omega (arith, length-drop at area)) k
-
--- one word more is 0
-pub cleared-word : (area : List ℕ) (i : ℕ) → i < length area → set (zeros i ++ drop i area) i 0 ≡ zeros (i + 1) ++ drop (i + 1) area
-cleared-word area i h =
-    rw (add-one, drop-cons area i 0 h, set-at (zeros i) (getD area i 0) (drop (suc i) area) 0 i (length-replicate {A = ℕ} i 0)) (zeros-snoc i (drop (suc i) area))
 
 module _ {area : List ℕ} (f : Finished area) where
   pub is-alone : true ≡ noneLive (getD area 1 0 - 1) area 10

@@ -3,9 +3,9 @@
 -- Document 01: "a join 15, 12, 14"; "14 NO JOIN: no live chunk to the right, or either not at rest".
 -- Rests on CallLaws and OneMove, and on machine's GivenExactly.
 --
--- Main definition: Follows. Main statements: follows, joining; join-bad, join-gone, join-alone, join-left, join-right, join-made.
+-- Main definitions: Follows, RightIs. Main statements: follows, joining; join-bad, join-gone, join-alone, join-moving, join-can, join-made.
 use mathlib.Core.Path.{_≡_, refl, sym, ap, _∙_}
-use mathlib.Core.Bool.{Bool, true, false}
+use mathlib.Core.Bool.{Bool, true, false, _&&_}
 use mathlib.Core.List.{List, _∷_, _++_, append-assoc}
 use mathlib.Core.Option.{Option, none, some}
 use Prim.Native.Nat.{ℕ, _+_, _<_, _≤_}
@@ -22,14 +22,16 @@ use Rattle.machine.specs.AllowedExactly.{rests-to}
 use Rattle.machine.specs.GivenExactly.{CannotJoin, no-live-right, left-not-at-rest, right-not-at-rest, join-no-chunk, no-join-exactly}
 use Rattle.area.specs.Layout.{decode}
 use Rattle.area.specs.Shape.{inShape}
+use Rattle.reader.specs.declared.calls.Right.{Right}
+use Rattle.reader.specs.declared.calls.Right.the-variants as right
 use Rattle.reader.specs.declared.moves.Next.{Next}
 use Rattle.reader.specs.declared.moves.Next.the-variants as next
-use Rattle.reader.specs.MoveWords.{joinWords}
+use Rattle.reader.specs.MoveWords.{joinWords, Joinable}
 use Rattle.reader.specs.ReadWords.{nextOf, liveAfter}
 use Rattle.reader.specs.LiveWords.{NextIs, next-is, no-next}
 use Rattle.reader.specs.JoinLaw.{nextNumber}
 use Rattle.reader.specs.MoveLaw.{runs-on}
-use Rattle.reader.specs.OneMove.{Held, held-live, runs-held, rests-held, next-held, Joining, joins-so, joined-words}
+use Rattle.reader.specs.OneMove.{Held, held-live, runs-held, rests-held, next-held, Joining, can-join, joins-so, joined-words}
 use Rattle.reader.specs.Moved.{liveIn, restsIn}
 use Rattle.reader.specs.CallLaws.{rests-true, rests-false, the-live, none-live, there}
 use Rattle.reader.specs.Calls.{calledAnswer, calledArea, joinCall, joinAnswer, joinArea}
@@ -61,8 +63,8 @@ module _ {words bytes area : List ℕ} (c : ℕ) (h : Held words bytes area) (e 
       go (next-is m p) = record { next-live = m; number-is = p }
 
   module _ {d : ℕ} (f : Follows d) where
-    abbrev right : Live (h .state .chunks) (nextNumber (h .state) (the-live h e) (f .next-live))
-    right =
+    abbrev right-live : Live (h .state .chunks) (nextNumber (h .state) (the-live h e) (f .next-live))
+    right-live =
         let l = the-live h e in
         let m = f .next-live in
         record {
@@ -76,7 +78,7 @@ module _ {words bytes area : List ℕ} (c : ℕ) (h : Held words bytes area) (e 
         }
 
     pub right-listed : d < getD area 1 0
-    right-listed = rw (f .number-is) (held-live h right .0)
+    right-listed = rw (f .number-is) (held-live h right-live .0)
 
     abbrev pub joining : restsIn area c ≡ true → restsIn area d ≡ true → Joining words bytes area c d
     joining p q = record {
@@ -85,13 +87,13 @@ module _ {words bytes area : List ℕ} (c : ℕ) (h : Held words bytes area) (e 
       next = f .next-live;
       number-is = f .number-is;
       left-rests = rests-held h (the-live h e) (rests-true area c p);
-      right-rests = rests-held h right (rests-true area _ (rw (f .number-is) at q));
+      right-rests = rests-held h right-live (rests-true area _ (rw (f .number-is) at q));
     }
 
     right-moves : restsIn area d ≡ false → IsAtRest (f .next-live .chunk) → ⊥
     right-moves q r =
         let p = rests-false area (nextNumber (h .state) (the-live h e) (f .next-live)) (rw (f .number-is) at q) in
-        not-both _ (rests-to r) (runs-on (runs-held h right (p .0) (p .1)))
+        not-both _ (rests-to r) (runs-on (runs-held h right-live (p .0) (p .1)))
 
   left-moves : restsIn area c ≡ false → IsAtRest (the-live h e .chunk) → ⊥
   left-moves q r = let p = rests-false area c q in not-both _ (rests-to r) (runs-on (runs-held h (the-live h e) (p .0) (p .1)))
@@ -126,10 +128,10 @@ module _ (words bytes area : List ℕ) (c : ℕ) where
       pub join-alone : next.NoChunk ≡ nextOf (liveAfter area c) → (Refused NoJoin ≡ joinAnswer words bytes area c) × (area ≡ joinArea words bytes area c)
       join-alone q = cannot (no-live-right (the-live lent e) (alone c lent e q))
 
-      pub join-left : restsIn area c ≡ false → (Refused NoJoin ≡ joinAnswer words bytes area c) × (area ≡ joinArea words bytes area c)
+      join-left : restsIn area c ≡ false → (Refused NoJoin ≡ joinAnswer words bytes area c) × (area ≡ joinArea words bytes area c)
       join-left q = cannot (left-not-at-rest (the-live lent e) (left-moves c lent e q))
 
-      pub join-right : (d : ℕ) → next.Chunk d ≡ nextOf (liveAfter area c) → restsIn area d ≡ false
+      join-right : (d : ℕ) → next.Chunk d ≡ nextOf (liveAfter area c) → restsIn area d ≡ false
           → (Refused NoJoin ≡ joinAnswer words bytes area c) × (area ≡ joinArea words bytes area c)
       join-right d n q = let f = follows c lent e d n in cannot (right-not-at-rest (the-live lent e) (f .next-live) (right-moves c lent e f q))
 
@@ -139,3 +141,25 @@ module _ (words bytes area : List ℕ) (c : ℕ) where
           let f = follows c lent e d n in
           let z = by-call (in-shape shape ∙ joins-so (joining c lent e f p q)) in
           (z .0, joined-words (joining c lent e f p q) ∙ z .1)
+
+      -- "or either not at rest"
+      pub join-moving : (d : ℕ) → next.Chunk d ≡ nextOf (liveAfter area c) → (restsIn area c && restsIn area d) ≡ false
+          → (Refused NoJoin ≡ joinAnswer words bytes area c) × (area ≡ joinArea words bytes area c)
+      join-moving d n q = go (restsIn area c) refl q
+        where
+          go : (t : Bool) → restsIn area c ≡ t → (t && restsIn area d) ≡ false → (Refused NoJoin ≡ joinAnswer words bytes area c) × (area ≡ joinArea words bytes area c)
+          go true p z = join-right d n z
+          go false p z = join-left p
+
+      pub join-can : (d : ℕ) → next.Chunk d ≡ nextOf (liveAfter area c) → restsIn area c ≡ true → restsIn area d ≡ true → Joinable area c d
+      join-can d n p q = can-join (joining c lent e (follows c lent e d n) p q)
+
+-- ---- what the checks of a join find
+
+-- the join with d can be made and is the call's, or this refusal is
+abbrev pub Offered : List ℕ → List ℕ → List ℕ → ℕ → Right → Type 0
+Offered words bytes area c (right.Chunk d) = Joinable area c d × (Done ≡ joinAnswer words bytes area c) × (joinWords area c d ≡ joinArea words bytes area c)
+Offered words bytes area c (right.Refused refusal) = (Refused refusal ≡ joinAnswer words bytes area c) × (area ≡ joinArea words bytes area c)
+
+pub record RightIs (words bytes area : List ℕ) (c : ℕ) (found : Right) : Type 0 where
+  pub offered : Offered words bytes area c found

@@ -3,12 +3,12 @@
 -- Document 01, "Moves of a chunk", rules 1 to 6; "next symbol b and topmost stack terminal a".
 -- Rests on OneMove, on table's Laid and area's WordsOfShape.
 --
--- Main definitions: Moved (the words that a move leaves), Facing, Compared, Takes, Taking (what is known on the way to them), HasLeft;
--- liveIn, restsIn.
--- Main statements: stuck-on-top, put-on-top, put-first, stuck-blank, put-marked, put-equal-left, put-equal-right, accepted, stuck-end,
+-- Main definitions: Moved (the words that a move leaves), CallsFor (the move that leaves them, and can be made); Facing, Compared, Takes,
+-- Taking (what is known on the way to it), HasLeft; liveIn, restsIn.
+-- Main statements: stuck-on-top, put-on-top, put-first, stuck-blank, put-marked, put-equal, ended, accepted, stuck-end,
 -- put-unmarked, replaced, stuck-rule; matrix-long, words-readable, has-left.
 use mathlib.Core.Path.{_≡_, refl, sym, ap, subst, _∙_}
-use mathlib.Core.Bool.{Bool, true, false, _&&_}
+use mathlib.Core.Bool.{Bool, true, false, false≢true, _&&_, _||_}
 use mathlib.Core.List.{List, map}
 use mathlib.Core.Option.{Option, none, some}
 use Prim.Native.Nat.{ℕ, zero, suc, _+_, _*_, _/_, _%_, _<_, _≤_}
@@ -16,7 +16,7 @@ use native.Mathlib.Omega.{arith}
 use lib.Dec.{eqb, ltb, leb}
 use lib.ListN.{length, getD}
 use Rattle.laws.specs.Least.{finds-none}
-use Rattle.laws.specs.Tests.{lt-ltb, ne-eqb, eq-eqb, le-leb, lt-leb, leb-true, all, upTo}
+use Rattle.laws.specs.Tests.{ltb-not, not-both, or-first, lt-ltb, ne-eqb, eq-eqb, le-leb, lt-leb, leb-true, all, upTo}
 use Rattle.laws.specs.Passed.{both}
 use Rattle.language.specs.Symbols.{Relation, blank, yields, equal, takes}
 use Rattle.language.specs.Grammar.{Rule, ruleAt, leftSide}
@@ -35,17 +35,19 @@ use Rattle.area.specs.Layout.{stackSize, marks, rowWord, slotWord}
 use Rattle.area.specs.Shape.{byteFits, ruleB}
 use Rattle.area.specs.WordsOfShape.{PassThree, rule-a-exactly, left-sides-fit}
 use Rattle.area.specs.EndMarkOfShape.{grammar-in-shape}
+use Rattle.reader.specs.declared.calls.Move.{Move}
+use Rattle.reader.specs.declared.calls.Move.the-variants.{Push, Stick, Accept, Reduce}
 use Rattle.reader.specs.declared.moves.Top.{Top}
 use Rattle.reader.specs.declared.moves.Top.the-variants.{Terminal, NoTerminal}
 use Rattle.reader.specs.declared.moves.Matched.{Matched}
 use Rattle.reader.specs.declared.moves.Matched.the-variants as matched
-use Rattle.reader.specs.MoveWords.{fromOf, headOf, endOf, marksOf, pushWords, stickWords, acceptWords, reduceWords}
+use Rattle.reader.specs.MoveWords.{fromOf, headOf, endOf, marksOf, pushWords, stickWords, acceptWords, reduceWords, Pushable, Stickable, Acceptable, Reducible}
 use Rattle.reader.specs.ReadWords.{topOf, TopIs, NonterminalOnTop, EndAndAxiom, HandleStarts}
-use Rattle.reader.specs.MatchWords.{handleWords, matchWords, matchedOf, Readable}
+use Rattle.reader.specs.MatchWords.{handleWords, matchWords, matchedOf, Readable, Whole}
 use Rattle.reader.specs.Matches.{readable}
 use Rattle.reader.specs.HandleSlots.{SomeHandle, marks-some}
 use Rattle.reader.specs.MoveLaw.{Leaves, rule-1-stuck, rule-1, rule-2, rule-3, rule-4-yields, rule-4-equal, rule-4-last, rule-4-stuck, rule-5, rule-5-stuck, rule-6}
-use Rattle.reader.specs.OneMove.{Held, Movable, stackOf, stack-held, marks-held, top-small, next-small, starts-held, rule-held}
+use Rattle.reader.specs.OneMove.{Held, Movable, stackOf, stack-held, marks-held, top-small, next-small, can-reduce, can-match, starts-held, rule-held}
 
 -- ---- a chunk's number, and whether it is at rest, off its row of the table
 
@@ -104,6 +106,24 @@ module _ {words bytes area : List ℕ} (h : Held words bytes area) where
 pub record Moved (words bytes area : List ℕ) (c : ℕ) (area′ : List ℕ) : Type 0 where
   pub found : (m : Movable words bytes area c) → Leaves words bytes area c (stackOf m) (slotWord area (headOf area c) 0) area′
 
+-- the words that each move leaves, and what it asks
+abbrev pub wordsAfter : List ℕ → ℕ → Move → List ℕ
+wordsAfter area c (Push mark) = pushWords area c mark
+wordsAfter area c (Stick status) = stickWords area c status
+wordsAfter area c Accept = acceptWords area c
+wordsAfter area c (Reduce from symbol rule) = reduceWords area c from symbol rule
+
+abbrev pub Possible : List ℕ → ℕ → Move → Type 0
+Possible area c (Push mark) = Pushable area c mark
+Possible area c (Stick status) = Stickable area c
+Possible area c Accept = Acceptable area c
+Possible area c (Reduce from symbol rule) = Reducible area c from
+
+-- the move that the words call for
+pub record CallsFor (words bytes area : List ℕ) (c : ℕ) (move : Move) : Type 0 where
+  pub possible : Possible area c move
+  pub leaves : Moved words bytes area c (wordsAfter area c move)
+
 -- "next symbol b and topmost stack terminal a"
 pub record Facing (words bytes area : List ℕ) (c a b : ℕ) : Type 0 where
   pub movable : Movable words bytes area c
@@ -143,12 +163,15 @@ rule-none : (o : Option ℕ) → matched.NoRule ≡ matchedOf o → o ≡ none
 rule-none none e = refl
 rule-none (some q) e = let z : _≡_ {A = ℕ} 0 1 = cc in absurd (omega arith)
 
-not-both-left : (a b : ℕ) → 0 < a → (eqb a 0 && eqb b 0) ≡ false
-not-both-left a b h = rw (ne-eqb a 0 (omega arith))
+-- "# over #", or not
+not-both-end : (a b : ℕ) → (ltb 0 a || ltb 0 b) ≡ true → (eqb a 0 && eqb b 0) ≡ false
+not-both-end zero zero e = absurd (false≢true e)
+not-both-end zero (suc b) e = ne-eqb (suc b) 0 (omega arith)
+not-both-end (suc a) b e = rw (ne-eqb (suc a) 0 (omega arith))
 
-not-both-right : (a b : ℕ) → 0 < b → (eqb a 0 && eqb b 0) ≡ false
-not-both-right zero b h = ne-eqb b 0 (omega arith)
-not-both-right (suc a) b h = not-both-left (suc a) b (omega arith)
+both-end : (a b : ℕ) → (ltb 0 a || ltb 0 b) ≡ false → (a ≡ 0) × (b ≡ 0)
+both-end zero b e = (refl, omega (arith, ltb-not 0 b .0 e))
+both-end (suc a) b e = absurd (not-both (ltb 0 (suc a) || ltb 0 b) (or-first (ltb 0 (suc a)) (ltb 0 b) (lt-ltb 0 (suc a) (omega arith))) e)
 
 pub blank-other : (x : ℕ) → (x ≡ 1 → ⊥) → (x ≡ 2 → ⊥) → (x ≡ 3 → ⊥) → relationFrom x ≡ blank
 blank-other zero p q r = refl
@@ -195,14 +218,13 @@ module _ {words bytes area : List ℕ} {c : ℕ} where
     pub put-marked : getD bytes (64 * a + b) 0 ≡ 1 → Moved words bytes area c (pushWords area c 1)
     put-marked e = of-next (λ m. rule-4-yields {a = a} (f .terminal) (over m) (relation-is yields (ap relationFrom e)))
 
-    put-equal : getD bytes (64 * a + b) 0 ≡ 2 → (eqb a 0 && eqb b 0) ≡ false → Moved words bytes area c (pushWords area c 0)
-    put-equal e z = of-next (λ m. rule-4-equal {a = a} (f .terminal) (over m) (relation-is equal (ap relationFrom e)) z)
+    pub put-equal : getD bytes (64 * a + b) 0 ≡ 2 → (ltb 0 a || ltb 0 b) ≡ true → Moved words bytes area c (pushWords area c 0)
+    put-equal e z = of-next (λ m. rule-4-equal {a = a} (f .terminal) (over m) (relation-is equal (ap relationFrom e)) (not-both-end a b z))
 
-    pub put-equal-left : getD bytes (64 * a + b) 0 ≡ 2 → 0 < a → Moved words bytes area c (pushWords area c 0)
-    put-equal-left e h = put-equal e (not-both-left a b h)
-
-    pub put-equal-right : getD bytes (64 * a + b) 0 ≡ 2 → 0 < b → Moved words bytes area c (pushWords area c 0)
-    put-equal-right e h = put-equal e (not-both-right a b h)
+  pub ended : {a b : ℕ} → Compared words bytes area c a b 2 → (ltb 0 a || ltb 0 b) ≡ false → Compared words bytes area c 0 0 2
+  ended {a} {b} k z =
+      let p = both-end a b z in
+      subst (λ (x : ℕ). Compared words bytes area c x 0 2) (p .0) (subst (λ (y : ℕ). Compared words bytes area c a y 2) (p .1) k)
 
   whole-is : {whole : Bool} → EndAndAxiom area (fromOf area c) (headOf area c) (countA words) whole → (m : Movable words bytes area c)
       → isWhole (tableOf words bytes) (stackOf m) ≡ whole
@@ -243,6 +265,13 @@ module _ {words bytes area : List ℕ} {c : ℕ} where
           → matchWords words (handleWords area at (headOf area c)) ≡ matching (grammarOf words) (map symbol (stackSymbols (the-handle m .handle)))
       the-rule m = ap (λ (i : ℕ). matchWords words (handleWords area i (headOf area c))) (starts-at m) ∙ rule-held m (the-handle m .above)
 
+      -- there the handle begins, and its words can be read
+      pub starts-below : at < headOf area c
+      starts-below = let m = fact .movable in omega (arith, starts-at m, can-reduce m (the-handle m .above) .some)
+
+      pub handle-there : Whole area (headOf area c) at
+      handle-there = let m = fact .movable in subst (λ (i : ℕ). Whole area (headOf area c) i) (sym (starts-at m)) (can-match m (the-handle m .above))
+
       pub stuck-rule : matched.NoRule ≡ matchedOf (matchWords words (handleWords area at (headOf area c))) → Moved words bytes area c (stickWords area c 18)
       stuck-rule e =
           of-next fact (λ m. rule-5-stuck {a = t .takes-over .a} (fact .terminal) (over fact m) is-taken (the-handle m .above) (sym (the-rule m) ∙ rule-none _ e))
@@ -271,3 +300,8 @@ module _ {words bytes area : List ℕ} {c : ℕ} where
         pub replaced : Moved words bytes area c (reduceWords area c at (256 + word words (entry words r)) r)
         replaced = of-next fact (λ m.
             rw (starts-at m, sym (left-is m)) (rule-5 {a = t .takes-over .a} {r = r} (fact .terminal) (over fact m) is-taken (the-handle m .above) (matches m)))
+
+        pub reduces : CallsFor words bytes area c (Reduce at (256 + word words (entry words r)) r)
+        reduces =
+            let m = fact .movable in
+            record { possible = subst (λ (i : ℕ). Reducible area c i) (sym (starts-at m)) (can-reduce m (the-handle m .above)); leaves = replaced }

@@ -4,7 +4,7 @@
 -- Rests on MoveLaw, JoinLaw, ReadLaw and LiveWords, and on area's InShape and Safe.
 --
 -- Main definitions: Held, Movable, Joining.
--- Main statements: held-in-shape; live-held, held-live, runs-held, rests-held, next-held; can-push, can-stick, can-accept, can-reduce,
+-- Main statements: held-in-shape; live-held, held-live, runs-held, rests-held, next-held; can-push, can-stick, row-there, can-accept, can-reduce,
 -- can-read, can-match; stack-held, marks-held, top-small, next-small, starts-held, rule-held; moves-so, held-stepped, live-stepped;
 -- can-join, joins-so, joined-words, held-joined.
 use mathlib.Core.Path.{_≡_, sym, ap, subst, _∙_}
@@ -13,7 +13,7 @@ use mathlib.Core.List.{List, _++_, map}
 use mathlib.Core.Option.{some}
 use Prim.Native.Nat.{ℕ, _+_, _<_, _≤_}
 use native.Mathlib.Omega.{arith}
-use lib.ListN.{getD, drop}
+use lib.ListN.{length, getD, drop}
 use Rattle.language.specs.Words.{countT, countN, grammarOf}
 use Rattle.language.specs.Matching.{matching}
 use Rattle.language.specs.Trees.{Span}
@@ -24,7 +24,7 @@ use Rattle.machine.specs.TableOf.{tableOf}
 use Rattle.machine.specs.Schedules.{by-step, by-join}
 use Rattle.machine.specs.Allowed.{HandleAbove, Live, Steps, NextLive}
 use Rattle.machine.specs.AllowedExactly.{step-exactly}
-use Rattle.area.specs.Layout.{need, stackSize, marks, encode, decode, rowWord, slotWord}
+use Rattle.area.specs.Layout.{need, stackSize, marks, encode, decode, tableAt, rowWord, slotWord}
 use Rattle.area.specs.Kept.{Kept}
 use Rattle.area.specs.Shape.{grammarInShape, inShape}
 use Rattle.area.specs.WordsOfShape.{terminals-fit}
@@ -137,6 +137,10 @@ module _ {words bytes area : List ℕ} {c : ℕ} (m : Movable words bytes area c
 
   pub can-stick : Stickable area c
   can-stick = on-area (λ a. Stickable a c) (stick-ready (m .held .kept) (m .held .rest) (m .live))
+
+  -- its row of the table is there
+  pub row-there : (k : ℕ) → k < 5 → tableAt c k < length area
+  row-there k l = omega (arith, can-stick .chunk, can-stick .room)
 
   pub can-accept : Acceptable area c
   can-accept =

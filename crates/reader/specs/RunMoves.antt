@@ -2,7 +2,7 @@
 -- Document 01, "Moves of a chunk": "it makes moves until K are made or it rests, and answers how many it made."
 -- Rests on OneMove, Moved and CallLaws, and on machine's Counts (the laws for a loop that makes a run's moves).
 --
--- Main definitions: Runnable, RanWords (the words that a run's moves leave), Underway (after some of them).
+-- Main definitions: Runnable, RanWords (the words that a run's moves leave), Underway (after some of them), ReadyIs (what the checks find).
 -- Main statements: underway, underway-listed, underway-movable, underway-more, underway-rests, underway-spent; run-bad, run-gone, run-rests, run-moved.
 use mathlib.Core.Path.{_≡_, sym, ap, _∙_}
 use mathlib.Core.Bool.{true, false, false≢true}
@@ -12,6 +12,8 @@ use native.Mathlib.Omega.{arith}
 use lib.ListN.{length, getD, drop}
 use Rattle.laws.specs.Tests.{lt-ltb}
 use Rattle.language.specs.declared.Refusal.the-variants.{BadState, NoChunk, AtRest}
+use Rattle.language.specs.declared.Answer.{Answer}
+use Rattle.language.specs.declared.Answer.the-variants.{Done, Refused}
 use Rattle.language.specs.declared.RunAnswer.the-variants as answer
 use Rattle.language.specs.Trees.{Span}
 use Rattle.language.specs.Words.{countT, countN}
@@ -30,7 +32,7 @@ use Rattle.reader.specs.MoveLaw.{Stepped, runs-on}
 use Rattle.reader.specs.OneMove.{Held, Movable, held-live, live-stepped, moves-so}
 use Rattle.reader.specs.Moved.{Moved, liveIn, restsIn, live-status}
 use Rattle.reader.specs.CallLaws.{there, table-there, the-live, none-live, at-rest-there, movable}
-use Rattle.reader.specs.Calls.{ranAnswer, ranArea, runCall, runAnswer, runArea}
+use Rattle.reader.specs.Calls.{stepAnswer, stepArea, ranAnswer, ranArea, runCall, runAnswer, runArea}
 
 -- an area that holds a state of which chunk c is live
 pub record Runnable (words bytes area : List ℕ) (c : ℕ) : Type 0 where
@@ -156,3 +158,15 @@ module _ (words bytes area : List ℕ) (c budget : ℕ) where
         let s = v .found (record { held = stands; live = the-live stands e }) in
         let z = by-run (in-shape shape ∙ run-moving (tableOf words bytes) c (decode area) (k .live) (λ i. false≢true (sym (runs-on (k .runs)) ∙ rests-to i)) budget ∙ s .ends) in
         (z .0, s .are ∙ z .1)
+
+-- ---- the checks of step and run
+
+-- a refusal is that of both calls; without one a chunk in shape is live and not at rest
+abbrev pub Ready : List ℕ → List ℕ → List ℕ → ℕ → Answer → Type 0
+Ready words bytes area c (Refused refusal) =
+    ((Refused refusal ≡ stepAnswer words bytes area c) × (area ≡ stepArea words bytes area c))
+    × ((budget : ℕ) → (answer.Refused refusal ≡ runAnswer words bytes area c budget) × (area ≡ runArea words bytes area c budget))
+Ready words bytes area c Done = (getD area 2 0 < 65536) × (inShape words bytes area ≡ true) × (liveIn area c ≡ true) × (restsIn area c ≡ false)
+
+pub record ReadyIs (words bytes area : List ℕ) (c : ℕ) (checked : Answer) : Type 0 where
+  pub found : Ready words bytes area c checked

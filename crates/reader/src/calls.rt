@@ -1,39 +1,90 @@
-// One move of a chunk, by document 01's rules 1 to 6: the tests of the words in their order, and the one change that each ends in; and
-// the moves of a run.
+// The checks of a call; one move of a chunk, by document 01's rules 1 to 6: the tests of the words in their order, which end in the move
+// that they call for, and that move made; and the moves of a run.
 use crate::moves;
 use crate::moves::Matched;
+use crate::moves::Next;
 use crate::moves::Top;
+use language::Answer;
+use language::Refusal;
 ghost use mathlib.Core.Path.{_≡_};
 ghost use Prim.Native.Nat.{_+_, _*_, _≤_, _<_};
 ghost use lib.ListN.{length, getD};
 ghost use Rattle.language.specs.Words.{countR, entry, word};
 ghost use Rattle.area.specs.Layout.{slotsAt};
 ghost use Rattle.reader.specs.OneMove.{Movable};
-ghost use Rattle.reader.specs.RunMoves.{Runnable, RanWords};
-ghost use Rattle.reader.specs.Moved.{Moved, Facing, Compared, Takes, Taking, HasLeft, liveIn, restsIn};
+ghost use Rattle.reader.specs.RunMoves.{ReadyIs, Runnable, RanWords};
+ghost use Rattle.reader.specs.JoinCalls.{RightIs};
+ghost use Rattle.reader.specs.Moved.{Moved, CallsFor, Facing, Compared, Takes, HasLeft, liveIn, restsIn};
+
+// The move that a chunk's words call for: its next symbol put on its stack with this mark (0 or 1); stuck with 17 to 20; the # of the end
+// read; the handle from this slot up replaced by this left side of this rule.
+pub enum Move {
+    Push(u16),
+    Stick(u16),
+    Accept,
+    Reduce(u16, u16, u16),
+}
+
+// The chunk that another can be joined to, or the refusal of the join.
+pub enum Right {
+    Chunk(usize),
+    Refused(Refusal),
+}
 
 // Whether number c is live.
-pub fn is_live(area: &[u16], c: usize) -> bool
+fn is_live(area: &[u16], c: usize) -> bool
     requires { ⌜ (2 ≤ length (now area)) × (slotsAt (now area) ≤ length (now area)) ⌝ }
     ensures { λ r. ⌜ r ≡ liveIn (now (area .entry)) c ⌝ }
 {
     if area[1] as usize <= c {
         return false;
     }
-    let line = 5 + 5 * c;
-    0 < area[line + 0]
+    0 < moves::row_word(area, c, 0)
 }
 
 // Whether chunk c, a live one, is at rest.
-pub fn at_rest(area: &[u16], c: usize) -> bool
+fn at_rest(area: &[u16], c: usize) -> bool
     requires { ⌜ (c < getD (now area) 1 0) × (slotsAt (now area) ≤ length (now area)) ⌝ }
     ensures { λ r. ⌜ r ≡ restsIn (now (area .entry)) c ⌝ }
 {
-    let line = 5 + 5 * c;
-    if area[line + 0] != 1 {
+    if moves::row_word(area, c, 0) != 1 {
         return true;
     }
-    area[line + 3] <= area[line + 2]
+    moves::row_word(area, c, 3) <= moves::row_word(area, c, 2)
+}
+
+// Whether chunk c can move: checks 15, 12 and 13.
+pub fn ready(words: &[u16], matrix: &[u8], area: &[u16], c: usize) -> Answer
+    ensures { λ r. ⌜ ReadyIs (now (words .entry)) (now (matrix .entry)) (now (area .entry)) c r ⌝ }
+{
+    if !area::in_shape(words, matrix, area) {
+        return Answer::Refused(Refusal::BadState);
+    }
+    if !is_live(area, c) {
+        return Answer::Refused(Refusal::NoChunk);
+    }
+    if at_rest(area, c) {
+        return Answer::Refused(Refusal::AtRest);
+    }
+    Answer::Done
+}
+
+// The chunk that chunk c can be joined to: checks 15, 12 and 14.
+pub fn right_of(words: &[u16], matrix: &[u8], area: &[u16], c: usize) -> Right
+    ensures { λ r. ⌜ RightIs (now (words .entry)) (now (matrix .entry)) (now (area .entry)) c r ⌝ }
+{
+    if !area::in_shape(words, matrix, area) {
+        return Right::Refused(Refusal::BadState);
+    }
+    if !is_live(area, c) {
+        return Right::Refused(Refusal::NoChunk);
+    }
+    if let Next::Chunk(d) = moves::next_live(area, c) {
+        if at_rest(area, c) & at_rest(area, d) {
+            return Right::Chunk(d);
+        }
+    }
+    Right::Refused(Refusal::NoJoin)
 }
 
 // The word of rule r's left side.
@@ -41,87 +92,81 @@ fn left_word(words: &[u16], r: u16) -> u16
     requires { ⌜ HasLeft (now words) r ⌝ }
     ensures { λ s. ⌜ s ≡ 256 + word (now (words .entry)) (entry (now (words .entry)) r) ⌝ }
 {
-    let at = words[4 + r as usize] as usize;
-    256 + words[at]
+    256 + words[moves::body_start(words, r as usize)]
 }
 
-// Rule 5: the handle is replaced by the left side of the least rule that has it, or the chunk is stuck with 18.
-fn replace(words: &[u16], matrix: &[u8], area: &mut [u16], c: usize)
-    requires { ⌜ Taking (now words) (now matrix) (now area) c ⌝ }
-    ensures { λ _. ⌜ Moved (now (words .entry)) (now (matrix .entry)) (now (area .entry)) c (now (area .exit)) ⌝ }
-{
-    let line = 5 + 5 * c;
-    let head = area[line + 2] as usize;
-    let from = moves::find_mark(area, c);
-    if let Matched::Rule(r) = moves::match_rule(words, area, from, head) {
-        let symbol = left_word(words, r);
-        moves::reduce(area, c, from as u16, symbol, r);
-        return;
-    }
-    moves::stick(area, c, 18);
-}
-
-// Rules 5 and 6: the topmost terminal takes over the next symbol.
-fn takes(words: &[u16], matrix: &[u8], area: &mut [u16], c: usize)
+// Rules 5 and 6: the topmost terminal takes over the next symbol. Where the stack has a mark, the handle is replaced by the left side of
+// the least rule that has it, or the chunk is stuck with 18.
+fn takes(words: &[u16], matrix: &[u8], area: &[u16], c: usize) -> Move
     requires { ⌜ Takes (now words) (now matrix) (now area) c ⌝ }
-    ensures { λ _. ⌜ Moved (now (words .entry)) (now (matrix .entry)) (now (area .entry)) c (now (area .exit)) ⌝ }
+    ensures { λ r. ⌜ CallsFor (now (words .entry)) (now (matrix .entry)) (now (area .entry)) c r ⌝ }
 {
-    let line = 5 + 5 * c;
-    if 0 < area[line + 4] {
-        replace(words, matrix, area, c);
-        return;
+    if moves::row_word(area, c, 4) == 0 {
+        return Move::Push(0);
     }
-    moves::push(area, c, 0);
+    let head = moves::row_word(area, c, 2);
+    let start = moves::find_mark(area, moves::row_word(area, c, 1), head);
+    if let Matched::Rule(r) = moves::match_rule(words, area, start, head) {
+        return Move::Reduce(start as u16, left_word(words, r), r);
+    }
+    Move::Stick(18)
 }
 
-// Rule 4, # over #: the last move, or the chunk is stuck with 19.
-fn ends(words: &[u16], matrix: &[u8], area: &mut [u16], c: usize)
-    requires { ⌜ Compared (now words) (now matrix) (now area) c 0 0 2 ⌝ }
-    ensures { λ _. ⌜ Moved (now (words .entry)) (now (matrix .entry)) (now (area .entry)) c (now (area .exit)) ⌝ }
-{
-    let axioms = words[2];
-    if moves::end_and_axiom(area, c, axioms) {
-        moves::accept(area, c);
-        return;
-    }
-    moves::stick(area, c, 19);
-}
-
-// Rule 4: the topmost terminal a is equal to the next symbol b.
-fn equals(words: &[u16], matrix: &[u8], area: &mut [u16], c: usize, a: u16, b: u16)
+// Rule 4: the topmost terminal a is equal to the next symbol b. For # over # it is the last move, or the chunk is stuck with 19.
+fn equals(words: &[u16], matrix: &[u8], area: &[u16], c: usize, a: u16, b: u16) -> Move
     requires { ⌜ Compared (now words) (now matrix) (now area) c a b 2 ⌝ }
-    ensures { λ _. ⌜ Moved (now (words .entry)) (now (matrix .entry)) (now (area .entry)) c (now (area .exit)) ⌝ }
+    ensures { λ r. ⌜ CallsFor (now (words .entry)) (now (matrix .entry)) (now (area .entry)) c r ⌝ }
 {
-    if 0 < a {
-        moves::push(area, c, 0);
-        return;
+    if (0 < a) | (0 < b) {
+        return Move::Push(0);
     }
-    if 0 < b {
-        moves::push(area, c, 0);
-        return;
+    if moves::end_and_axiom(
+        area,
+        moves::row_word(area, c, 1),
+        moves::row_word(area, c, 2),
+        words[2],
+    ) {
+        return Move::Accept;
     }
-    ends(words, matrix, area, c);
+    Move::Stick(19)
 }
 
 // Rules 3 to 6: a is the topmost terminal and b the next symbol.
-fn related(words: &[u16], matrix: &[u8], area: &mut [u16], c: usize, a: u16, b: u16)
+fn related(words: &[u16], matrix: &[u8], area: &[u16], c: usize, a: u16, b: u16) -> Move
     requires { ⌜ Facing (now words) (now matrix) (now area) c a b ⌝ }
-    ensures { λ _. ⌜ Moved (now (words .entry)) (now (matrix .entry)) (now (area .entry)) c (now (area .exit)) ⌝ }
+    ensures { λ r. ⌜ CallsFor (now (words .entry)) (now (matrix .entry)) (now (area .entry)) c r ⌝ }
 {
     let byte = matrix[64 * (a as usize) + b as usize];
     if byte == 1 {
-        moves::push(area, c, 1);
-        return;
+        return Move::Push(1);
     }
     if byte == 2 {
-        equals(words, matrix, area, c, a, b);
-        return;
+        return equals(words, matrix, area, c, a, b);
     }
     if byte == 3 {
-        takes(words, matrix, area, c);
-        return;
+        return takes(words, matrix, area, c);
     }
-    moves::stick(area, c, 17);
+    Move::Stick(17)
+}
+
+// The move of chunk c, a live one that is not at rest: rules 1 and 2 here, the others where the stack has a terminal.
+fn next_move(words: &[u16], matrix: &[u8], area: &[u16], c: usize) -> Move
+    requires { ⌜ Movable (now words) (now matrix) (now area) c ⌝ }
+    ensures { λ r. ⌜ CallsFor (now (words .entry)) (now (matrix .entry)) (now (area .entry)) c r ⌝ }
+{
+    let from = moves::row_word(area, c, 1);
+    let head = moves::row_word(area, c, 2);
+    let b = moves::slot_word(area, head, 0);
+    if 256 <= b {
+        if moves::nonterminal_on_top(area, from, head) {
+            return Move::Stick(20);
+        }
+        return Move::Push(0);
+    }
+    if let Top::Terminal(a) = moves::top_terminal(area, from, head) {
+        return related(words, matrix, area, c, a, b);
+    }
+    Move::Push(0)
 }
 
 // One move of chunk c, a live one that is not at rest.
@@ -129,22 +174,13 @@ pub fn make_move(words: &[u16], matrix: &[u8], area: &mut [u16], c: usize)
     requires { ⌜ Movable (now words) (now matrix) (now area) c ⌝ }
     ensures { λ _. ⌜ Moved (now (words .entry)) (now (matrix .entry)) (now (area .entry)) c (now (area .exit)) ⌝ }
 {
-    let line = 5 + 5 * c;
-    let head = area[line + 2] as usize;
-    let b = moves::slot_word(area, head, 0);
-    if 256 <= b {
-        if moves::top_is_nonterminal(area, c) {
-            moves::stick(area, c, 20);
-            return;
-        }
-        moves::push(area, c, 0);
-        return;
+    let next = next_move(words, matrix, area, c);
+    match next {
+        Move::Push(mark) => moves::push(area, c, mark),
+        Move::Stick(status) => moves::stick(area, c, status),
+        Move::Accept => moves::accept(area, c),
+        Move::Reduce(from, symbol, rule) => moves::reduce(area, c, from, symbol, rule),
     }
-    if let Top::Terminal(a) = moves::top_terminal(area, c) {
-        related(words, matrix, area, c, a, b);
-        return;
-    }
-    moves::push(area, c, 0);
 }
 
 // Moves of chunk c, a live one, until so many are made or it rests; how many were made.

@@ -3,9 +3,8 @@ mod calls;
 mod moves;
 mod parsing;
 
-use crate::moves::Next;
+use crate::calls::Right;
 use language::Answer;
-use language::Refusal;
 use language::ReportAnswer;
 use language::RunAnswer;
 ghost use mathlib.Core.Path.{_≡_};
@@ -18,14 +17,8 @@ pub fn step(words: &[u16], matrix: &[u8], area: &mut [u16], chunk: usize) -> Ans
     ensures answers { λ r. ⌜ r ≡ stepAnswer (now (words .entry)) (now (matrix .entry)) (now (area .entry)) chunk ⌝ }
     ensures leaves { λ _. ⌜ now (area .exit) ≡ stepArea (now (words .entry)) (now (matrix .entry)) (now (area .entry)) chunk ⌝ }
 {
-    if !area::in_shape(words, matrix, area) {
-        return Answer::Refused(Refusal::BadState);
-    }
-    if !calls::is_live(area, chunk) {
-        return Answer::Refused(Refusal::NoChunk);
-    }
-    if calls::at_rest(area, chunk) {
-        return Answer::Refused(Refusal::AtRest);
+    if let Answer::Refused(refusal) = calls::ready(words, matrix, area, chunk) {
+        return Answer::Refused(refusal);
     }
     calls::make_move(words, matrix, area, chunk);
     Answer::Done
@@ -36,14 +29,8 @@ pub fn run(words: &[u16], matrix: &[u8], area: &mut [u16], chunk: usize, budget:
     ensures answers { λ r. ⌜ r ≡ runAnswer (now (words .entry)) (now (matrix .entry)) (now (area .entry)) chunk budget ⌝ }
     ensures leaves { λ _. ⌜ now (area .exit) ≡ runArea (now (words .entry)) (now (matrix .entry)) (now (area .entry)) chunk budget ⌝ }
 {
-    if !area::in_shape(words, matrix, area) {
-        return RunAnswer::Refused(Refusal::BadState);
-    }
-    if !calls::is_live(area, chunk) {
-        return RunAnswer::Refused(Refusal::NoChunk);
-    }
-    if calls::at_rest(area, chunk) {
-        return RunAnswer::Refused(Refusal::AtRest);
+    if let Answer::Refused(refusal) = calls::ready(words, matrix, area, chunk) {
+        return RunAnswer::Refused(refusal);
     }
     RunAnswer::Moves(calls::make_moves(words, matrix, area, chunk, budget))
 }
@@ -53,23 +40,14 @@ pub fn join(words: &[u16], matrix: &[u8], area: &mut [u16], chunk: usize) -> Ans
     ensures answers { λ r. ⌜ r ≡ joinAnswer (now (words .entry)) (now (matrix .entry)) (now (area .entry)) chunk ⌝ }
     ensures leaves { λ _. ⌜ now (area .exit) ≡ joinArea (now (words .entry)) (now (matrix .entry)) (now (area .entry)) chunk ⌝ }
 {
-    if !area::in_shape(words, matrix, area) {
-        return Answer::Refused(Refusal::BadState);
-    }
-    if !calls::is_live(area, chunk) {
-        return Answer::Refused(Refusal::NoChunk);
-    }
-    if let Next::Chunk(d) = moves::next_live(area, chunk) {
-        if !calls::at_rest(area, chunk) {
-            return Answer::Refused(Refusal::NoJoin);
+    let right = calls::right_of(words, matrix, area, chunk);
+    match right {
+        Right::Chunk(d) => {
+            moves::join_chunks(area, chunk, d);
+            return Answer::Done;
         }
-        if !calls::at_rest(area, d) {
-            return Answer::Refused(Refusal::NoJoin);
-        }
-        moves::join_chunks(area, chunk, d);
-        return Answer::Done;
+        Right::Refused(refusal) => Answer::Refused(refusal),
     }
-    Answer::Refused(Refusal::NoJoin)
 }
 
 // The front-to-back parse in one call: checks 1 to 9, 11 for the work area, 17 to 20, and 11 for the report. From 11 for the work area on, the

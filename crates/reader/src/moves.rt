@@ -3,14 +3,14 @@
 ghost use mathlib.Core.Path.{_≡_};
 ghost use Prim.Native.Nat.{_+_, _*_, _-_, _≤_, _<_};
 ghost use lib.ListN.{length, getD};
-ghost use Rattle.area.specs.Layout.{slotsAt, slotWord};
-ghost use Rattle.reader.specs.MoveWords.{tickWords, pushWords, stickWords, acceptWords, unmarkWords, goneWords, joinWords};
+ghost use Rattle.area.specs.Layout.{slotsAt, slotWord, tableAt, rowWord};
+ghost use Rattle.reader.specs.MoveWords.{tickWords, pushWords, stickWords, acceptWords, unmarkWords, joinWords};
 ghost use Rattle.reader.specs.MoveWords.{startOf, clearedOne, clearedWords, laidWords, notedWords, reduceWords};
 ghost use Rattle.reader.specs.MoveWords.{Ticks, Pushable, Stickable, Acceptable, Joinable, Tagged, Laid, Roomy, Reducible};
-ghost use Rattle.reader.specs.MoveWords.{fromOf, headOf, slotAt};
-ghost use Rattle.reader.specs.ReadWords.{Stacked, HasStack, EndsBlock, startSlot, TopIs, NonterminalOnTop, EndAndAxiom, BelowMark, HandleStarts, nextOf, liveAfter};
+ghost use Rattle.reader.specs.MoveWords.{slotAt, movesIn};
+ghost use Rattle.reader.specs.ReadWords.{Stacked, EndsBlock, startSlot, TopIs, NonterminalOnTop, EndAndAxiom, BelowMark, HandleStarts, nextOf, liveAfter};
 ghost use Rattle.reader.specs.MatchWords.{Readable, Whole, handleWords, matchWords, matchedOf};
-ghost use Rattle.language.specs.Words.{countR, bodyEnd};
+ghost use Rattle.language.specs.Words.{countR, entry, bodyEnd};
 
 // The word where slot s starts.
 fn slot_at(area: &[u16], s: usize) -> usize
@@ -28,12 +28,28 @@ pub fn slot_word(area: &[u16], s: usize, k: usize) -> u16
     area[slot_at(area, s) + k]
 }
 
+// Word k of chunk c's row of the table.
+pub fn row_word(area: &[u16], c: usize, k: usize) -> usize
+    requires { ⌜ tableAt c k < length (now area) ⌝ }
+    ensures { λ r. ⌜ r ≡ rowWord (now (area .entry)) c k ⌝ }
+{
+    area[5 + 5 * c + k] as usize
+}
+
+// The count of moves, which stands in two words.
+pub fn moves_of(area: &[u16]) -> u32
+    requires { ⌜ 4 ≤ length (now area) ⌝ }
+    ensures { λ r. ⌜ r ≡ movesIn (now (area .entry)) ⌝ }
+{
+    (area[2] as u32) + 65536 * (area[3] as u32)
+}
+
 // One move more.
 pub fn tick(area: &mut [u16])
     requires { ⌜ Ticks (now area) ⌝ }
     ensures { λ _. ⌜ now (area .exit) ≡ tickWords (now (area .entry)) ⌝ }
 {
-    let moves = (area[2] as u32) + 65536 * (area[3] as u32) + 1;
+    let moves = moves_of(area) + 1;
     area[2] = (moves % 65536) as u16;
     area[3] = (moves / 65536) as u16;
 }
@@ -64,6 +80,18 @@ pub fn stick(area: &mut [u16], c: usize, status: u16)
     tick(area);
 }
 
+// Puts 0 at `count` words, the first at `at`.
+pub fn zero(area: &mut [u16], at: usize, count: usize)
+    requires { ⌜ at + count ≤ length (now area) ⌝ }
+    ensures { λ _. ⌜ now (area .exit) ≡ clearedWords (now (area .entry)) at count ⌝ }
+{
+    let mut i = 0;
+    while i < count {
+        area[at + i] = 0;
+        i += 1;
+    }
+}
+
 // Chunk c reads the # of the end, its stack unchanged.
 pub fn accept(area: &mut [u16], c: usize)
     requires { ⌜ Acceptable (now area) c ⌝ }
@@ -72,10 +100,7 @@ pub fn accept(area: &mut [u16], c: usize)
     let line = 5 + 5 * c;
     let end = area[line + 3];
     let slot = slot_at(area, (end - 1) as usize);
-    area[slot + 0] = 0;
-    area[slot + 1] = 0;
-    area[slot + 2] = 0;
-    area[slot + 3] = 0;
+    zero(area, slot, 4);
     area[line + 3] = end - 1;
     tick(area);
 }
@@ -94,20 +119,7 @@ fn unmark(area: &mut [u16], first: usize, count: usize)
     }
 }
 
-// Chunk d is gone: its row of the table is 0.
-fn gone(area: &mut [u16], d: usize)
-    requires { ⌜ 10 + 5 * d ≤ length (now area) ⌝ }
-    ensures { λ _. ⌜ now (area .exit) ≡ goneWords (now (area .entry)) d ⌝ }
-{
-    let line = 5 + 5 * d;
-    area[line + 0] = 0;
-    area[line + 1] = 0;
-    area[line + 2] = 0;
-    area[line + 3] = 0;
-    area[line + 4] = 0;
-}
-
-// Joins chunk c to chunk d, the next live one.
+// Joins chunk c to chunk d, the next live one: d's stack is unmarked, its end is c's, and its row of the table is 0.
 pub fn join_chunks(area: &mut [u16], c: usize, d: usize)
     requires { ⌜ Joinable (now area) c d ⌝ }
     ensures { λ _. ⌜ now (area .exit) ≡ joinWords (now (area .entry)) c d ⌝ }
@@ -120,7 +132,7 @@ pub fn join_chunks(area: &mut [u16], c: usize, d: usize)
     let slot = slot_at(area, from);
     unmark(area, slot + 1, head - from);
     area[line + 3] = end;
-    gone(area, d);
+    zero(area, other, 5);
     tick(area);
 }
 
@@ -211,7 +223,7 @@ fn block_start(area: &[u16], end: usize) -> usize
 }
 
 // Whether the topmost symbol of the stack on the slots from `from` up to `end` is a nonterminal.
-fn nonterminal_on_top(area: &[u16], from: usize, end: usize) -> bool
+pub fn nonterminal_on_top(area: &[u16], from: usize, end: usize) -> bool
     requires { ⌜ Stacked (now area) from end ⌝ }
     ensures { λ r. ⌜ NonterminalOnTop (now (area .entry)) from end r ⌝ }
 {
@@ -221,23 +233,12 @@ fn nonterminal_on_top(area: &[u16], from: usize, end: usize) -> bool
     256 <= slot_word(area, block_start(area, end), 0)
 }
 
-// Whether the topmost symbol of chunk c's stack is a nonterminal.
-pub fn top_is_nonterminal(area: &[u16], c: usize) -> bool
-    requires { ⌜ HasStack (now area) c ⌝ }
-    ensures { λ r. ⌜ NonterminalOnTop (now (area .entry)) (fromOf (now (area .entry)) c) (headOf (now (area .entry)) c) r ⌝ }
+// The topmost terminal of the stack on the slots from `from` up to `head`.
+pub fn top_terminal(area: &[u16], from: usize, head: usize) -> Top
+    requires { ⌜ Stacked (now area) from head ⌝ }
+    ensures { λ r. ⌜ TopIs (now (area .entry)) from head r ⌝ }
 {
-    let line = 5 + 5 * c;
-    nonterminal_on_top(area, area[line + 1] as usize, area[line + 2] as usize)
-}
-
-// The topmost terminal of chunk c's stack.
-pub fn top_terminal(area: &[u16], c: usize) -> Top
-    requires { ⌜ HasStack (now area) c ⌝ }
-    ensures { λ r. ⌜ TopIs (now (area .entry)) (fromOf (now (area .entry)) c) (headOf (now (area .entry)) c) r ⌝ }
-{
-    let line = 5 + 5 * c;
-    let from = area[line + 1] as usize;
-    let mut at = area[line + 2] as usize;
+    let mut at = head;
     while from < at {
         at = block_start(area, at);
         let word = slot_word(area, at, 0);
@@ -259,14 +260,12 @@ fn below_mark(area: &[u16], from: usize, at: usize) -> usize
     at
 }
 
-// The slot where the handle of chunk c's stack starts; `from` where there is no mark.
-pub fn find_mark(area: &[u16], c: usize) -> usize
-    requires { ⌜ HasStack (now area) c ⌝ }
-    ensures { λ r. ⌜ HandleStarts (now (area .entry)) (fromOf (now (area .entry)) c) (headOf (now (area .entry)) c) r ⌝ }
+// The slot where the handle starts of the stack on the slots from `from` up to `head`; `from` where there is no mark.
+pub fn find_mark(area: &[u16], from: usize, head: usize) -> usize
+    requires { ⌜ Stacked (now area) from head ⌝ }
+    ensures { λ r. ⌜ HandleStarts (now (area .entry)) from head r ⌝ }
 {
-    let line = 5 + 5 * c;
-    let from = area[line + 1] as usize;
-    let mut at = area[line + 2] as usize;
+    let mut at = head;
     while from < at {
         at = block_start(area, at);
         if 0 < slot_word(area, at, 1) {
@@ -276,14 +275,11 @@ pub fn find_mark(area: &[u16], c: usize) -> usize
     from
 }
 
-// Whether chunk c's stack is # and one of the first `axioms` nonterminals.
-pub fn end_and_axiom(area: &[u16], c: usize, axioms: u16) -> bool
-    requires { ⌜ HasStack (now area) c ⌝ }
-    ensures { λ r. ⌜ EndAndAxiom (now (area .entry)) (fromOf (now (area .entry)) c) (headOf (now (area .entry)) c) axioms r ⌝ }
+// Whether the stack on the slots from `from` up to `head` is # and one of the first `axioms` nonterminals.
+pub fn end_and_axiom(area: &[u16], from: usize, head: usize, axioms: u16) -> bool
+    requires { ⌜ Stacked (now area) from head ⌝ }
+    ensures { λ r. ⌜ EndAndAxiom (now (area .entry)) from head axioms r ⌝ }
 {
-    let line = 5 + 5 * c;
-    let from = area[line + 1] as usize;
-    let head = area[line + 2] as usize;
     if head <= from {
         return false;
     }
@@ -292,17 +288,11 @@ pub fn end_and_axiom(area: &[u16], c: usize, axioms: u16) -> bool
         return false;
     }
     let bottom = block_start(area, top);
-    if from < bottom {
-        return false;
-    }
-    if slot_word(area, bottom, 0) != 0 {
-        return false;
-    }
-    let word = slot_word(area, top, 0);
-    if word < 256 {
-        return false;
-    }
-    word - 256 < axioms
+    let word = slot_word(area, top, 0) as usize;
+    (bottom <= from)
+        & (slot_word(area, bottom, 0) == 0)
+        & (256 <= word)
+        & (word < 256 + axioms as usize)
 }
 
 // The next live chunk after chunk c.
@@ -313,8 +303,7 @@ pub fn next_live(area: &[u16], c: usize) -> Next
     let count = area[1] as usize;
     let mut d = c + 1;
     while d < count {
-        let line = 5 + 5 * d;
-        if 0 < area[line + 0] {
+        if 0 < row_word(area, d, 0) {
             return Next::Chunk(d);
         }
         d += 1;
@@ -328,13 +317,21 @@ pub enum Matched {
     NoRule,
 }
 
+// The word place at which rule r's body starts.
+pub fn body_start(words: &[u16], r: usize) -> usize
+    requires { ⌜ 4 + r < length (now words) ⌝ }
+    ensures { λ b. ⌜ b ≡ entry (now (words .entry)) r ⌝ }
+{
+    words[4 + r] as usize
+}
+
 // The word place at which rule r's body ends.
 fn body_end(words: &[u16], r: usize) -> usize
     requires { ⌜ Readable (now words) × (r < countR (now words)) ⌝ }
     ensures { λ e. ⌜ (e ≡ bodyEnd (now (words .entry)) r) × (e ≤ length (now (words .entry))) ⌝ }
 {
     if r + 1 < words[3] as usize {
-        return words[4 + (r + 1)] as usize;
+        return body_start(words, r + 1);
     }
     words.len()
 }
@@ -353,7 +350,7 @@ pub fn match_rule(words: &[u16], area: &[u16], from: usize, head: usize) -> Matc
         }
         next += 1;
         let end = body_end(words, r);
-        let mut i = words[4 + r] as usize + 1;
+        let mut i = body_start(words, r) + 1;
         let mut s = from;
         while s < head {
             if end <= i {

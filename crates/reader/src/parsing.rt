@@ -1,5 +1,6 @@
 // The one-call parse: load and start, the moves of chunk 0 until it rests, the row's outcome read off the words, and the words cleared.
 use crate::calls;
+use crate::moves;
 use language::Answer;
 use language::Refusal;
 use language::ReportAnswer;
@@ -10,11 +11,12 @@ ghost use lib.ListN.{length, take, drop};
 ghost use Rattle.machine.specs.Answers.{outcomeAnswer, outcomeOut};
 ghost use Rattle.area.specs.Layout.{need, zeros};
 ghost use Rattle.report.specs.OutcomeWords.{stuckRefusal, wordsOutcome};
+ghost use Rattle.reader.specs.MoveWords.{clearedWords};
 ghost use Rattle.reader.specs.ParseCall.{parseOutcome, parseAnswer, parseArea, parseOut};
 ghost use Rattle.reader.specs.ParseLaws.{Begun, Finished};
 
 // The refusal of a row stuck with this status at this place.
-fn refusal_of(status: u16, place: u32) -> Refusal
+fn refusal_of(status: usize, place: u32) -> Refusal
     ensures { λ r. ⌜ r ≡ stuckRefusal status place ⌝ }
 {
     if status == 17 {
@@ -27,13 +29,6 @@ fn refusal_of(status: u16, place: u32) -> Refusal
         return Refusal::NotAxiom(place);
     }
     Refusal::SideBySide(place)
-}
-
-// The count of moves, which stands in two words.
-fn moves_of(low: u16, high: u16) -> u32
-    ensures { λ r. ⌜ r ≡ low + 65536 * high ⌝ }
-{
-    (low as u32) + 65536 * (high as u32)
 }
 
 // So many words of an area, from word `at` on, put in at the front of a run.
@@ -54,9 +49,9 @@ fn outcome(area: &[u16], out: &mut [u16]) -> ReportAnswer
     ensures { λ r. ⌜ r ≡ outcomeAnswer (wordsOutcome (now (area .entry))) (length (now (out .entry))) ⌝ }
     ensures { λ _. ⌜ now (out .exit) ≡ outcomeOut (wordsOutcome (now (area .entry))) (now (out .entry)) ⌝ }
 {
-    let status = area[5];
-    let head = area[7];
+    let status = moves::row_word(area, 0, 0);
     if 17 <= status {
+        let head = moves::row_word(area, 0, 2);
         return ReportAnswer::Refused(refusal_of(status, (head - 1) as u32));
     }
     let count = area[4] as u32;
@@ -65,28 +60,16 @@ fn outcome(area: &[u16], out: &mut [u16]) -> ReportAnswer
         return ReportAnswer::Refused(Refusal::NoRoom(3 * count));
     }
     put_words(area, 18 + 4 * (area[0] as usize), size, out);
-    ReportAnswer::Report(count, moves_of(area[2], area[3]))
-}
-
-// Puts 0 at the first words of an area.
-fn clear(area: &mut [u16], count: usize)
-    requires { ⌜ count ≤ length (now area) ⌝ }
-    ensures { λ _. ⌜ now (area .exit) ≡ zeros count ++ drop count (now (area .entry)) ⌝ }
-{
-    let mut i = 0;
-    while i < count {
-        area[i] = 0;
-        i += 1;
-    }
+    ReportAnswer::Report(count, moves::moves_of(area))
 }
 
 // The words of a row of n tokens cleared, whatever its answer.
 fn cleared(area: &mut [u16], n: usize, answer: ReportAnswer) -> ReportAnswer
     requires { ⌜ 7 * n + 18 ≤ length (now area) ⌝ }
     ensures { λ r. ⌜ r ≡ answer ⌝ }
-    ensures { λ _. ⌜ now (area .exit) ≡ zeros (7 * n + 18) ++ drop (7 * n + 18) (now (area .entry)) ⌝ }
+    ensures { λ _. ⌜ now (area .exit) ≡ clearedWords (now (area .entry)) 0 (7 * n + 18) ⌝ }
 {
-    clear(area, 7 * n + 18);
+    moves::zero(area, 0, 7 * n + 18);
     answer
 }
 

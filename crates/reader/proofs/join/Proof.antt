@@ -1,172 +1,42 @@
--- `join` meets its contract: the checks in their order, and then the join.
-use mathlib.Core.Path.{_≡_, sym, _∙_}
-use mathlib.Core.Bool.{true, false}
-use Prim.Native.Nat.{_<_}
-use native.Mathlib.Omega.{arith}
-use lib.ListN.{getD}
+-- `join` meets its contract: the checks, and then the join.
+use mathlib.Core.Path.{_∙_}
 use borrow.Author.Needs.{needs}
-use borrow.Author.Tests.{not-true, not-false}
-use Rattle.area.specs.Shape.{inShape}
-use Rattle.reader.specs.declared.moves.Next.the-variants.{Chunk, NoChunk}
-use Rattle.reader.specs.ReadWords.{nextOf, liveAfter}
-use Rattle.reader.specs.Moved.{liveIn, restsIn}
-use Rattle.reader.specs.OneMove.{can-join}
-use Rattle.reader.specs.CallLaws.{there, table-there, live-true}
-use Rattle.reader.specs.JoinCalls.{follows, right-listed, joining, join-bad, join-gone, join-alone, join-left, join-right, join-made}
 use Rattle.reader.proofs.join.Statement.{statement}
 use Rattle.reader.proofs.join.Tie as tie
 
-in-shape-requires : tie.Need-in-shape-requires
-in-shape-requires c κs = search needs
+right-of-requires : tie.Need-right-of-requires
+right-of-requires c κs = search needs
+
+enum-known-right : tie.Need-enum-known-right
+enum-known-right c = search needs
+
+join-chunks-requires : tie.Need-join-chunks-requires
+join-chunks-requires c κs = let k = rw (c .before .before .right .given .1) at (c .before .before .before .before .right-of .ensures) in k .offered .0
 
 same-length : tie.Need-same-length
 same-length c = search needs
 
 returns : tie.Need-returns
-returns c =
-    let a = c .before .before .before .before .before .before .args in
-    let bad : inShape (a .words .now) (a .matrix .now) (a .area .now) ≡ false = sym (c .before .in-shape .ensures) ∙ not-true _ (c .if1 .taken) in
-    join-bad (a .words .now) (a .matrix .now) (a .area .now) (a .chunk) bad
+returns c = let k = rw (c .before .before .before .before .before .right .given .1) at (c .before .before .before .before .before .before .before .right-of .ensures) in (k .offered .1, c .before .before .join-chunks .ensures ∙ k .offered .2)
 
-is-live-requires : tie.Need-is-live-requires
-is-live-requires c κs =
-    let a = c .before .before .before .before .before .before .before .args in
-    let low : getD (a .area .now) 2 0 < 65536 = omega (arith, c .before .before .before .before .slice-known .given 2) in
-    let shape : inShape (a .words .now) (a .matrix .now) (a .area .now) ≡ true = sym (c .before .before .in-shape .ensures) ∙ not-false _ (c .before .if1 .left) in
-    table-there (there (a .words .now) (a .matrix .now) (a .area .now) (a .chunk) low shape)
+enum-known-right-2 : tie.Need-enum-known-right-2
+enum-known-right-2 c = search needs
 
 same-length-2 : tie.Need-same-length-2
 same-length-2 c = search needs
 
 returns-2 : tie.Need-returns-2
-returns-2 c =
-    let a = c .before .before .before .before .before .before .before .before .before .args in
-    let low : getD (a .area .now) 2 0 < 65536 = omega (arith, c .before .before .before .before .before .before .slice-known .given 2) in
-    let shape : inShape (a .words .now) (a .matrix .now) (a .area .now) ≡ true = sym (c .before .before .before .before .in-shape .ensures) ∙ not-false _ (c .before .before .before .if1 .left) in
-    let gone : liveIn (a .area .now) (a .chunk) ≡ false = sym (c .before .is-live .ensures) ∙ not-true _ (c .if2 .taken) in
-    join-gone (a .words .now) (a .matrix .now) (a .area .now) (a .chunk) low shape gone
-
-next-live-requires : tie.Need-next-live-requires
-next-live-requires c κs =
-    let a = c .before .before .before .before .before .before .before .before .before .before .args in
-    let low : getD (a .area .now) 2 0 < 65536 = omega (arith, c .before .before .before .before .before .before .before .slice-known .given 2) in
-    let shape : inShape (a .words .now) (a .matrix .now) (a .area .now) ≡ true = sym (c .before .before .before .before .before .in-shape .ensures) ∙ not-false _ (c .before .before .before .before .if1 .left) in
-    let alive : liveIn (a .area .now) (a .chunk) ≡ true = sym (c .before .before .is-live .ensures) ∙ not-false _ (c .before .if2 .left) in
-    (live-true (a .area .now) (a .chunk) alive .0, table-there (there (a .words .now) (a .matrix .now) (a .area .now) (a .chunk) low shape) .1)
-
-enum-known-d : tie.Need-enum-known-d
-enum-known-d c = search needs
-
-at-rest-requires : tie.Need-at-rest-requires
-at-rest-requires c κs =
-    let a = c .before .before .before .before .before .before .before .before .before .before .before .before .before .before .before .args in
-    let low : getD (a .area .now) 2 0 < 65536 = omega (arith, c .before .before .before .before .before .before .before .before .before .before .before .before .slice-known .given 2) in
-    let shape : inShape (a .words .now) (a .matrix .now) (a .area .now) ≡ true = sym (c .before .before .before .before .before .before .before .before .before .before .in-shape .ensures) ∙ not-false _ (c .before .before .before .before .before .before .before .before .before .if1 .left) in
-    let alive : liveIn (a .area .now) (a .chunk) ≡ true = sym (c .before .before .before .before .before .before .before .is-live .ensures) ∙ not-false _ (c .before .before .before .before .before .before .if2 .left) in
-    (live-true (a .area .now) (a .chunk) alive .0, table-there (there (a .words .now) (a .matrix .now) (a .area .now) (a .chunk) low shape) .1)
-
-same-length-3 : tie.Need-same-length-3
-same-length-3 c = search needs
-
-returns-3 : tie.Need-returns-3
-returns-3 c =
-    let a = c .before .before .before .before .before .before .before .before .before .before .before .before .before .before .before .before .before .args in
-    let low : getD (a .area .now) 2 0 < 65536 = omega (arith, c .before .before .before .before .before .before .before .before .before .before .before .before .before .before .slice-known .given 2) in
-    let shape : inShape (a .words .now) (a .matrix .now) (a .area .now) ≡ true = sym (c .before .before .before .before .before .before .before .before .before .before .before .before .in-shape .ensures) ∙ not-false _ (c .before .before .before .before .before .before .before .before .before .before .before .if1 .left) in
-    let alive : liveIn (a .area .now) (a .chunk) ≡ true = sym (c .before .before .before .before .before .before .before .before .before .is-live .ensures) ∙ not-false _ (c .before .before .before .before .before .before .before .before .if2 .left) in
-    let moving : restsIn (a .area .now) (a .chunk) ≡ false = sym (c .before .at-rest .ensures) ∙ not-true _ (c .if3 .taken) in
-    join-left (a .words .now) (a .matrix .now) (a .area .now) (a .chunk) low shape alive moving
-
-at-rest-requires-2 : tie.Need-at-rest-requires-2
-at-rest-requires-2 c κs =
-    let a = c .before .before .before .before .before .before .before .before .before .before .before .before .before .before .before .before .before .before .args in
-    let low : getD (a .area .now) 2 0 < 65536 = omega (arith, c .before .before .before .before .before .before .before .before .before .before .before .before .before .before .before .slice-known .given 2) in
-    let shape : inShape (a .words .now) (a .matrix .now) (a .area .now) ≡ true = sym (c .before .before .before .before .before .before .before .before .before .before .before .before .before .in-shape .ensures) ∙ not-false _ (c .before .before .before .before .before .before .before .before .before .before .before .before .if1 .left) in
-    let alive : liveIn (a .area .now) (a .chunk) ≡ true = sym (c .before .before .before .before .before .before .before .before .before .before .is-live .ensures) ∙ not-false _ (c .before .before .before .before .before .before .before .before .before .if2 .left) in
-    let d = c .before .before .before .before .before .d .given .0 .0 in
-    let follow : Chunk d ≡ nextOf (liveAfter (a .area .now) (a .chunk)) = sym (c .before .before .before .before .before .d .given .1) ∙ c .before .before .before .before .before .before .before .next-live .ensures in
-    let h = there (a .words .now) (a .matrix .now) (a .area .now) (a .chunk) low shape in
-    (right-listed (a .chunk) h alive (follows (a .chunk) h alive d follow), table-there h .1)
-
-same-length-4 : tie.Need-same-length-4
-same-length-4 c = search needs
-
-returns-4 : tie.Need-returns-4
-returns-4 c =
-    let a = c .before .before .before .before .before .before .before .before .before .before .before .before .before .before .before .before .before .before .before .before .args in
-    let low : getD (a .area .now) 2 0 < 65536 = omega (arith, c .before .before .before .before .before .before .before .before .before .before .before .before .before .before .before .before .before .slice-known .given 2) in
-    let shape : inShape (a .words .now) (a .matrix .now) (a .area .now) ≡ true = sym (c .before .before .before .before .before .before .before .before .before .before .before .before .before .before .before .in-shape .ensures) ∙ not-false _ (c .before .before .before .before .before .before .before .before .before .before .before .before .before .before .if1 .left) in
-    let alive : liveIn (a .area .now) (a .chunk) ≡ true = sym (c .before .before .before .before .before .before .before .before .before .before .before .before .is-live .ensures) ∙ not-false _ (c .before .before .before .before .before .before .before .before .before .before .before .if2 .left) in
-    let d = c .before .before .before .before .before .before .before .d .given .0 .0 in
-    let follow : Chunk d ≡ nextOf (liveAfter (a .area .now) (a .chunk)) = sym (c .before .before .before .before .before .before .before .d .given .1) ∙ c .before .before .before .before .before .before .before .before .before .next-live .ensures in
-    let moving : restsIn (a .area .now) d ≡ false = sym (c .before .at-rest2 .ensures) ∙ not-true _ (c .if4 .taken) in
-    join-right (a .words .now) (a .matrix .now) (a .area .now) (a .chunk) low shape alive d follow moving
-
-join-chunks-requires : tie.Need-join-chunks-requires
-join-chunks-requires c κs =
-    let a = c .before .before .before .before .before .before .before .before .before .before .before .before .before .before .before .before .before .before .before .before .before .args in
-    let low : getD (a .area .now) 2 0 < 65536 = omega (arith, c .before .before .before .before .before .before .before .before .before .before .before .before .before .before .before .before .before .before .slice-known .given 2) in
-    let shape : inShape (a .words .now) (a .matrix .now) (a .area .now) ≡ true = sym (c .before .before .before .before .before .before .before .before .before .before .before .before .before .before .before .before .in-shape .ensures) ∙ not-false _ (c .before .before .before .before .before .before .before .before .before .before .before .before .before .before .before .if1 .left) in
-    let alive : liveIn (a .area .now) (a .chunk) ≡ true = sym (c .before .before .before .before .before .before .before .before .before .before .before .before .before .is-live .ensures) ∙ not-false _ (c .before .before .before .before .before .before .before .before .before .before .before .before .if2 .left) in
-    let d = c .before .before .before .before .before .before .before .before .d .given .0 .0 in
-    let follow : Chunk d ≡ nextOf (liveAfter (a .area .now) (a .chunk)) = sym (c .before .before .before .before .before .before .before .before .d .given .1) ∙ c .before .before .before .before .before .before .before .before .before .before .next-live .ensures in
-    let left : restsIn (a .area .now) (a .chunk) ≡ true = sym (c .before .before .before .before .before .at-rest .ensures) ∙ not-false _ (c .before .before .before .before .if3 .left) in
-    let right : restsIn (a .area .now) d ≡ true = sym (c .before .before .at-rest2 .ensures) ∙ not-false _ (c .before .if4 .left) in
-    let h = there (a .words .now) (a .matrix .now) (a .area .now) (a .chunk) low shape in
-    can-join (joining (a .chunk) h alive (follows (a .chunk) h alive d follow) left right)
-
-same-length-5 : tie.Need-same-length-5
-same-length-5 c = search needs
-
-returns-5 : tie.Need-returns-5
-returns-5 c =
-    let a = c .before .before .before .before .before .before .before .before .before .before .before .before .before .before .before .before .before .before .before .before .before .before .before .before .args in
-    let low : getD (a .area .now) 2 0 < 65536 = omega (arith, c .before .before .before .before .before .before .before .before .before .before .before .before .before .before .before .before .before .before .before .before .before .slice-known .given 2) in
-    let shape : inShape (a .words .now) (a .matrix .now) (a .area .now) ≡ true = sym (c .before .before .before .before .before .before .before .before .before .before .before .before .before .before .before .before .before .before .before .in-shape .ensures) ∙ not-false _ (c .before .before .before .before .before .before .before .before .before .before .before .before .before .before .before .before .before .before .if1 .left) in
-    let alive : liveIn (a .area .now) (a .chunk) ≡ true = sym (c .before .before .before .before .before .before .before .before .before .before .before .before .before .before .before .before .is-live .ensures) ∙ not-false _ (c .before .before .before .before .before .before .before .before .before .before .before .before .before .before .before .if2 .left) in
-    let d = c .before .before .before .before .before .before .before .before .before .before .before .d .given .0 .0 in
-    let follow : Chunk d ≡ nextOf (liveAfter (a .area .now) (a .chunk)) = sym (c .before .before .before .before .before .before .before .before .before .before .before .d .given .1) ∙ c .before .before .before .before .before .before .before .before .before .before .before .before .before .next-live .ensures in
-    let left : restsIn (a .area .now) (a .chunk) ≡ true = sym (c .before .before .before .before .before .before .before .before .at-rest .ensures) ∙ not-false _ (c .before .before .before .before .before .before .before .if3 .left) in
-    let right : restsIn (a .area .now) d ≡ true = sym (c .before .before .before .before .before .at-rest2 .ensures) ∙ not-false _ (c .before .before .before .before .if4 .left) in
-    let z = join-made (a .words .now) (a .matrix .now) (a .area .now) (a .chunk) low shape alive d follow left right in
-    (z .0, c .before .before .join-chunks .ensures ∙ z .1)
-
-enum-told : tie.Need-enum-told
-enum-told c = search needs
-
-same-length-6 : tie.Need-same-length-6
-same-length-6 c = search needs
-
-returns-6 : tie.Need-returns-6
-returns-6 c =
-    let a = c .before .before .before .before .before .before .before .before .before .before .before .before .before .args in
-    let low : getD (a .area .now) 2 0 < 65536 = omega (arith, c .before .before .before .before .before .before .before .before .before .before .slice-known .given 2) in
-    let shape : inShape (a .words .now) (a .matrix .now) (a .area .now) ≡ true = sym (c .before .before .before .before .before .before .before .before .in-shape .ensures) ∙ not-false _ (c .before .before .before .before .before .before .before .if1 .left) in
-    let alive : liveIn (a .area .now) (a .chunk) ≡ true = sym (c .before .before .before .before .before .is-live .ensures) ∙ not-false _ (c .before .before .before .before .if2 .left) in
-    let alone : NoChunk ≡ nextOf (liveAfter (a .area .now) (a .chunk)) = sym (c .enum-told .given .1) ∙ c .before .before .next-live .ensures in
-    join-alone (a .words .now) (a .matrix .now) (a .area .now) (a .chunk) low shape alive alone
+returns-2 c = let k = rw (c .before .right2 .given .1) at (c .before .before .before .right-of .ensures) in k .offered
 
 pub join-spec : {M : Type 1} → statement M
 join-spec =
     tie.close
     (tie.spec
-    in-shape-requires
+    right-of-requires
+    enum-known-right
+    join-chunks-requires
     same-length
     returns
-    is-live-requires
+    enum-known-right-2
     same-length-2
-    returns-2
-    next-live-requires
-    enum-known-d
-    at-rest-requires
-    same-length-3
-    returns-3
-    at-rest-requires-2
-    same-length-4
-    returns-4
-    join-chunks-requires
-    same-length-5
-    returns-5
-    enum-told
-    same-length-6
-    returns-6)
+    returns-2)

@@ -11,25 +11,13 @@ cast-if1 : tie.Need-cast-if1
 cast-if1 c = search needs
 
 returns : tie.Need-returns
-returns c = let a = c .before .before .args in live-past (a .area .now) (a .c) (c .if1 .taken)
+returns c = let a = c .before .before .before .args in live-past (a .area .now) (a .c) (c .if1 .taken)
 
-mul-line : tie.Need-mul-line
-mul-line c = search needs
-
-add-line : tie.Need-add-line
-add-line c = search needs
-
-add-result : tie.Need-add-result
-add-result c = search needs
-
-mul-result : tie.Need-mul-result
-mul-result c = search needs
-
-shared-slice-read-result : tie.Need-shared-slice-read-result
-shared-slice-read-result c = search needs
+row-word-requires : tie.Need-row-word-requires
+row-word-requires c κs = search needs
 
 returns-2 : tie.Need-returns-2
-returns-2 c = let a = c .before .before .before .args in live-status (a .area .now) (a .c) (c .before .if1 .left)
+returns-2 c = let a = c .before .before .before .before .args in rw (c .row-word .ensures) (live-status (a .area .now) (a .c) (c .before .if1 .left))
 
 pub is-live-spec : {M : Type 1} → statement M
 is-live-spec =
@@ -38,9 +26,5 @@ is-live-spec =
     shared-slice-read-if1
     cast-if1
     returns
-    mul-line
-    add-line
-    add-result
-    mul-result
-    shared-slice-read-result
+    row-word-requires
     returns-2)

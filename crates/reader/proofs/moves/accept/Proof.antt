@@ -1,10 +1,13 @@
--- `moves::accept` meets its contract: the five stores are `endedWords`, and the move is counted.
-use Rattle.reader.proofs.Ready.{ended-ready}
-use Rattle.reader.specs.MoveWords.{acceptWords, endedWords}
+-- `moves::accept` meets its contract: the slot put to 0 and the `end` stored are `endedWords`, and the move is counted.
+use mathlib.Core.Path.{sym, ap, subst, _∙_}
+use mathlib.Core.List.{List}
+use Prim.Native.Nat.{ℕ}
 use native.Mathlib.Omega.{arith}
-use mathlib.Core.Path.{_∙_}
 use lib.ListN.{length-set}
 use borrow.Author.Needs.{needs}
+use Rattle.reader.specs.MoveWords.{tickWords, acceptWords, Ticks}
+use Rattle.reader.proofs.Ready.{ended-ready}
+use Rattle.reader.proofs.Zeroing.{ended-zeroed}
 use Rattle.reader.proofs.moves.accept.Statement.{statement}
 use Rattle.reader.proofs.moves.accept.Tie as tie
 
@@ -32,6 +35,12 @@ cast-slot-at c = search needs
 slot-at-requires : tie.Need-slot-at-requires
 slot-at-requires c κs = search needs
 
+zero-requires : tie.Need-zero-requires
+zero-requires c κs = search needs
+
+sub-area : tie.Need-sub-area
+sub-area c = search needs
+
 add-area : tie.Need-add-area
 add-area c = search needs
 
@@ -41,55 +50,17 @@ mul-area c = search needs
 slice-write-area : tie.Need-slice-write-area
 slice-write-area c = search needs
 
-add-area-2 : tie.Need-add-area-2
-add-area-2 c = search needs
-
-mul-area-2 : tie.Need-mul-area-2
-mul-area-2 c = search needs
-
-slice-write-area-2 : tie.Need-slice-write-area-2
-slice-write-area-2 c = simp length-set (omega arith)
-
-add-area-3 : tie.Need-add-area-3
-add-area-3 c = search needs
-
-mul-area-3 : tie.Need-mul-area-3
-mul-area-3 c = search needs
-
-slice-write-area-3 : tie.Need-slice-write-area-3
-slice-write-area-3 c = simp length-set (omega arith)
-
-add-area-4 : tie.Need-add-area-4
-add-area-4 c = search needs
-
-mul-area-4 : tie.Need-mul-area-4
-mul-area-4 c = search needs
-
-slice-write-area-4 : tie.Need-slice-write-area-4
-slice-write-area-4 c = simp length-set (omega arith)
-
-sub-area : tie.Need-sub-area
-sub-area c = search needs
-
-add-area-5 : tie.Need-add-area-5
-add-area-5 c = search needs
-
-mul-area-5 : tie.Need-mul-area-5
-mul-area-5 c = search needs
-
-slice-write-area-5 : tie.Need-slice-write-area-5
-slice-write-area-5 c = simp length-set (omega arith)
-
 tick-requires : tie.Need-tick-requires
-unfolding endedWords
-tick-requires c κs = rw (c .before .slot-at .ensures) (ended-ready _ _ (c .before .before .before .before .before .pre))
+tick-requires c κs =
+    let p = c .before .before .before .before .before .before .before .before .before .pre in
+    rw (c .before .before .before .zero .ensures, c .before .before .before .before .before .slot-at .ensures) (subst (λ (l : List ℕ). Ticks l) (sym (ended-zeroed _ _ p)) (ended-ready _ _ p))
 
 same-length : tie.Need-same-length
-same-length c = c .before .before .tick .kept .0 ∙ simp length-set
+same-length c = c .before .before .tick .kept .0 ∙ simp length-set (c .before .before .before .before .before .before .zero .kept .0)
 
 returns : tie.Need-returns
-unfolding acceptWords endedWords
-returns c = rw (c .before .before .tick .ensures, c .before .before .before .before .slot-at .ensures)
+unfolding acceptWords
+returns c = rw (c .before .before .tick .ensures, c .before .before .before .before .before .before .zero .ensures, c .before .before .before .before .before .before .before .before .slot-at .ensures) (ap tickWords (ended-zeroed _ _ (c .before .before .before .before .before .before .before .before .before .before .before .before .pre)))
 
 pub accept-spec : {M : Type 1} → statement M
 accept-spec =
@@ -103,22 +74,11 @@ accept-spec =
     sub-slot-at
     cast-slot-at
     slot-at-requires
+    zero-requires
+    sub-area
     add-area
     mul-area
     slice-write-area
-    add-area-2
-    mul-area-2
-    slice-write-area-2
-    add-area-3
-    mul-area-3
-    slice-write-area-3
-    add-area-4
-    mul-area-4
-    slice-write-area-4
-    sub-area
-    add-area-5
-    mul-area-5
-    slice-write-area-5
     tick-requires
     same-length
     returns)

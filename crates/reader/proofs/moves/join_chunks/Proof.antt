@@ -1,10 +1,13 @@
--- `moves::join_chunks` meets its contract: the marks cleared, the `end` taken over and the row cleared are `oneWords`, and the move is counted.
-use Rattle.reader.proofs.Ready.{one-ready}
-use Rattle.reader.specs.MoveWords.{joinWords, oneWords}
+-- `moves::join_chunks` meets its contract: the marks cleared, the `end` taken over and the row put to 0 are `oneWords`, and the move is counted.
+use mathlib.Core.Path.{sym, ap, subst, _∙_}
+use mathlib.Core.List.{List}
+use Prim.Native.Nat.{ℕ}
 use native.Mathlib.Omega.{arith}
-use mathlib.Core.Path.{_∙_}
 use lib.ListN.{length-set}
 use borrow.Author.Needs.{needs}
+use Rattle.reader.specs.MoveWords.{tickWords, joinWords, Ticks}
+use Rattle.reader.proofs.Ready.{one-ready}
+use Rattle.reader.proofs.Zeroing.{one-zeroed}
 use Rattle.reader.proofs.moves.join_chunks.Statement.{statement}
 use Rattle.reader.proofs.moves.join_chunks.Tie as tie
 
@@ -74,19 +77,20 @@ mul-area c = search needs
 slice-write-area : tie.Need-slice-write-area
 slice-write-area c = search needs
 
-gone-requires : tie.Need-gone-requires
-gone-requires c κs = simp length-set (omega (arith, c .before .before .before .unmark .kept .0))
+zero-requires : tie.Need-zero-requires
+zero-requires c κs = simp length-set (omega (arith, c .before .before .before .unmark .kept .0))
 
 tick-requires : tie.Need-tick-requires
-unfolding oneWords
-tick-requires c κs = rw (c .before .before .before .gone .ensures, c .before .before .before .before .before .before .before .unmark .ensures, c .before .before .before .before .before .before .before .before .before .slot-at .ensures) (one-ready _ _ _ (c .before .before .before .before .before .before .before .before .before .before .before .before .before .before .before .pre))
+tick-requires c κs =
+    let p = c .before .before .before .before .before .before .before .before .before .before .before .before .before .before .before .pre in
+    rw (c .before .before .before .zero .ensures, c .before .before .before .before .before .before .before .unmark .ensures, c .before .before .before .before .before .before .before .before .before .slot-at .ensures) (subst (λ (l : List ℕ). Ticks l) (sym (one-zeroed _ _ _ p)) (one-ready _ _ _ p))
 
 same-length : tie.Need-same-length
-same-length c = c .before .before .tick .kept .0 ∙ c .before .before .before .before .before .before .gone .kept .0 ∙ simp length-set (c .before .before .before .before .before .before .before .before .before .before .unmark .kept .0)
+same-length c = c .before .before .tick .kept .0 ∙ c .before .before .before .before .before .before .zero .kept .0 ∙ simp length-set (c .before .before .before .before .before .before .before .before .before .before .unmark .kept .0)
 
 returns : tie.Need-returns
-unfolding joinWords oneWords
-returns c = rw (c .before .before .tick .ensures, c .before .before .before .before .before .before .gone .ensures, c .before .before .before .before .before .before .before .before .before .before .unmark .ensures, c .before .before .before .before .before .before .before .before .before .before .before .before .slot-at .ensures)
+unfolding joinWords
+returns c = rw (c .before .before .tick .ensures, c .before .before .before .before .before .before .zero .ensures, c .before .before .before .before .before .before .before .before .before .before .unmark .ensures, c .before .before .before .before .before .before .before .before .before .before .before .before .slot-at .ensures) (ap tickWords (one-zeroed _ _ _ (c .before .before .before .before .before .before .before .before .before .before .before .before .before .before .before .before .before .before .pre)))
 
 pub join-chunks-spec : {M : Type 1} → statement M
 join-chunks-spec =
@@ -114,7 +118,7 @@ join-chunks-spec =
     add-area
     mul-area
     slice-write-area
-    gone-requires
+    zero-requires
     tick-requires
     same-length
     returns)

@@ -40,23 +40,14 @@ add-next c = omega arith
 body-end-requires : tie.Need-body-end-requires Inv-loop μ-loop Inv-outer μ-outer
 body-end-requires c κs = (c .before .before .before .before .before .pre .0, c .if1 .left)
 
+body-start-requires : tie.Need-body-start-requires Inv-loop μ-loop Inv-outer μ-outer
+body-start-requires c κs = omega (arith, c .before .if1 .left, c .before .before .before .before .before .before .pre .0 .long)
+
 add-i : tie.Need-add-i Inv-loop μ-loop Inv-outer μ-outer
-add-i c = omega arith
-
-mul-i : tie.Need-mul-i Inv-loop μ-loop Inv-outer μ-outer
-mul-i c = omega arith
-
-shared-slice-read-i : tie.Need-shared-slice-read-i Inv-loop μ-loop Inv-outer μ-outer
-shared-slice-read-i c = omega arith
-
-cast-i : tie.Need-cast-i Inv-loop μ-loop Inv-outer μ-outer
-cast-i c = omega (arith, c .shared-slice-known4 .given (4 + c .before .before .before .outer .next))
-
-add-i-2 : tie.Need-add-i-2 Inv-loop μ-loop Inv-outer μ-outer
-add-i-2 c = omega (arith, c .shared-slice-known4 .given (4 + c .before .before .before .outer .next))
+add-i c = omega (arith, c .body-start .ensures, c .before .before .before .before .shared-slice-known3 .given (4 + c .before .before .before .outer .next))
 
 loop-holds : tie.Need-loop-holds Inv-loop μ-loop Inv-outer μ-outer
-loop-holds c = (c .before .before .before .before .before .before .before .pre .1, rw (c .before .body-end .ensures .0, add-one))
+loop-holds c = (c .before .before .before .before .before .before .before .pre .1, rw (c .body-start .ensures, c .before .body-end .ensures .0, add-one))
 
 outer-less : tie.Need-outer-less Inv-loop μ-loop Inv-outer μ-outer
 outer-less c = omega (arith, c .before .before .before .before .before .if1 .left)
@@ -96,8 +87,8 @@ cast-s c = omega (arith, c .slot-word2 .ok)
 add-s : tie.Need-add-s Inv-loop μ-loop Inv-outer μ-outer
 add-s c = omega (arith, c .slot-word2 .ensures, whole-le (whole-rest (c .before .before .before .before .before .before .loop .inv .0) (c .before .before .before .before .before .loop-test .taken)))
 
-add-i-3 : tie.Need-add-i-3 Inv-loop μ-loop Inv-outer μ-outer
-add-i-3 c = omega (arith, c .before .before .before .before .if2 .left, c .before .before .before .before .before .before .before .before .body-end .ensures .1)
+add-i-2 : tie.Need-add-i-2 Inv-loop μ-loop Inv-outer μ-outer
+add-i-2 c = omega (arith, c .before .before .before .before .if2 .left, c .before .before .before .before .before .before .before .before .body-end .ensures .1)
 
 loop-less : tie.Need-loop-less Inv-loop μ-loop Inv-outer μ-outer
 loop-less c = omega (arith, c .slot-word2 .ensures, whole-size (c .before .before .before .before .before .before .loop .inv .0) (c .before .before .before .before .before .loop-test .taken), c .before .before .before .before .before .loop-test .taken)
@@ -120,8 +111,8 @@ outer-again-3 c =
     let o = c .before .before .before .before .before .before .outer in
     (omega (arith, c .before .before .before .before .before .if1 .left), o .inv .1 ∙ first-past (hasRight (a .words .now) (handleWords (a .area .now) (a .from) (a .head))) _ (o .next) (c .before .before .before .before .before .if1 .left) (l .inv .1 ∙ same-longer (a .words .now) _ (c .before .before .before .before .body-end .ensures .1) (a .area .now) (a .head) (l .i) (l .s) (c .before .loop-test .left) (c .if4 .taken)))
 
-cast-t19 : tie.Need-cast-t19 Inv-loop μ-loop Inv-outer μ-outer
-cast-t19 c = omega (arith, c .before .before .before .before .before .if1 .left, c .before .before .before .before .before .before .before .shared-slice-known3 .given 3)
+cast-t22 : tie.Need-cast-t22 Inv-loop μ-loop Inv-outer μ-outer
+cast-t22 c = omega (arith, c .before .before .before .before .before .if1 .left, c .before .before .before .before .before .before .before .shared-slice-known3 .given 3)
 
 returns : tie.Need-returns Inv-loop μ-loop Inv-outer μ-outer
 returns c =
@@ -148,11 +139,8 @@ match-rule-spec =
     outer-holds
     add-next
     body-end-requires
+    body-start-requires
     add-i
-    mul-i
-    shared-slice-read-i
-    cast-i
-    add-i-2
     loop-holds
     outer-less
     outer-again
@@ -164,11 +152,11 @@ match-rule-spec =
     slot-word-requires-2
     cast-s
     add-s
-    add-i-3
+    add-i-2
     loop-less
     loop-again
     outer-less-3
     outer-again-3
-    cast-t19
+    cast-t22
     returns
     returns-2)

@@ -27,25 +27,13 @@ add-d c = omega arith
 loop-holds : tie.Need-loop-holds Inv-loop μ-loop
 loop-holds c = (omega arith, omega arith, refl)
 
-mul-line : tie.Need-mul-line Inv-loop μ-loop
-mul-line c = omega arith
-
-add-line : tie.Need-add-line Inv-loop μ-loop
-add-line c = omega arith
-
-add-if1 : tie.Need-add-if1 Inv-loop μ-loop
-add-if1 c = omega arith
-
-mul-if1 : tie.Need-mul-if1 Inv-loop μ-loop
-mul-if1 c = omega arith
-
-shared-slice-read-if1 : tie.Need-shared-slice-read-if1 Inv-loop μ-loop
-shared-slice-read-if1 c = omega arith
+row-word-requires : tie.Need-row-word-requires Inv-loop μ-loop
+row-word-requires c κs = omega arith
 
 returns : tie.Need-returns Inv-loop μ-loop
 returns c =
     let l = c .before .before .before .loop in
-    sym (ap nextOf (l .inv .2 ∙ first-here (liveAt (c .before .before .before .before .before .args .area .now)) _ (l .d) (omega arith) (lt-ltb _ _ (c .if1 .taken))))
+    sym (ap nextOf (l .inv .2 ∙ first-here (liveAt (c .before .before .before .before .before .before .args .area .now)) _ (l .d) (omega arith) (lt-ltb _ _ (rw (c .before .row-word .ensures) at (c .if1 .taken)))))
 
 add-d-2 : tie.Need-add-d-2 Inv-loop μ-loop
 add-d-2 c = omega arith
@@ -56,12 +44,12 @@ loop-less c = omega arith
 loop-again : tie.Need-loop-again Inv-loop μ-loop
 loop-again c =
     let l = c .before .before .before .loop in
-    (omega arith, omega arith, l .inv .2 ∙ first-past (liveAt (c .before .before .before .before .before .args .area .now)) _ (l .d) (omega arith) (le-ltb _ _ (c .if1 .left)))
+    (omega arith, omega arith, l .inv .2 ∙ first-past (liveAt (c .before .before .before .before .before .before .args .area .now)) _ (l .d) (omega arith) (le-ltb _ _ (rw (c .before .row-word .ensures) at (c .if1 .left))))
 
 returns-2 : tie.Need-returns-2 Inv-loop μ-loop
 returns-2 c =
     let l = c .before .loop in
-    sym (ap nextOf (l .inv .2 ∙ first-end (liveAt (c .before .before .before .args .area .now)) _ (l .d) (omega arith)))
+    sym (ap nextOf (l .inv .2 ∙ first-end (liveAt (c .before .before .before .before .args .area .now)) _ (l .d) (omega arith)))
 
 pub next-live-spec : {M : Type 1} → statement M
 next-live-spec =
@@ -73,11 +61,7 @@ next-live-spec =
     cast-count
     add-d
     loop-holds
-    mul-line
-    add-line
-    add-if1
-    mul-if1
-    shared-slice-read-if1
+    row-word-requires
     returns
     add-d-2
     loop-less

@@ -57,7 +57,7 @@ slice-write-area : tie.Need-slice-write-area
 slice-write-area c = search needs
 
 add-area-2 : tie.Need-add-area-2
-add-area-2 c = rw (c .before .slot-at .ensures) (omega arith)
+add-area-2 c = omega (arith, rw (← c .before .slot-at .ensures) at (c .before .before .before .before .before .before .pre .head))
 
 add-area-3 : tie.Need-add-area-3
 add-area-3 c = search needs

@@ -2,7 +2,6 @@
 use Rattle.reader.proofs.Walks.{Down, down-begins, down-none, down-ends, top-found, top-more}
 use Rattle.reader.specs.ReadWords.{Holds, topOf}
 use Rattle.machine.specs.Entries.{Entry, topTerminal}
-use Rattle.reader.specs.MoveWords.{fromOf, headOf}
 use Rattle.language.specs.Trees.{Span}
 use mathlib.Core.List.{List}
 use mathlib.Core.Path.{sym, ap}
@@ -11,49 +10,21 @@ use Rattle.reader.proofs.moves.top_terminal.Statement.{statement}
 use Rattle.reader.proofs.moves.top_terminal.Tie as tie
 
 abbrev Inv-loop : tie.InvT-loop
-Inv-loop area c line from at₀ at = (stack : List (Entry Span)) → Holds area (fromOf area c) (headOf area c) stack → Down _ topTerminal area (fromOf area c) at stack
+Inv-loop area from head at₀ at = (stack : List (Entry Span)) → Holds area from head stack → Down _ topTerminal area from at stack
 
 abbrev μ-loop : tie.MeasureT-loop
-μ-loop area c line from at₀ at = at
-
-mul-line : tie.Need-mul-line Inv-loop μ-loop
-mul-line c = omega arith
-
-add-line : tie.Need-add-line Inv-loop μ-loop
-add-line c = omega arith
-
-add-from : tie.Need-add-from Inv-loop μ-loop
-add-from c = omega arith
-
-mul-from : tie.Need-mul-from Inv-loop μ-loop
-mul-from c = omega arith
-
-shared-slice-read-from : tie.Need-shared-slice-read-from Inv-loop μ-loop
-shared-slice-read-from c = omega arith
-
-cast-from : tie.Need-cast-from Inv-loop μ-loop
-cast-from c = omega arith
-
-add-at : tie.Need-add-at Inv-loop μ-loop
-add-at c = omega arith
-
-mul-at : tie.Need-mul-at Inv-loop μ-loop
-mul-at c = omega arith
-
-shared-slice-read-at : tie.Need-shared-slice-read-at Inv-loop μ-loop
-shared-slice-read-at c = omega arith
-
-cast-at : tie.Need-cast-at Inv-loop μ-loop
-cast-at c = omega arith
+μ-loop area from head at₀ at = at
 
 loop-holds : tie.Need-loop-holds Inv-loop μ-loop
 loop-holds c = λ stack h. down-begins _ topTerminal h
 
 block-start-requires : tie.Need-block-start-requires Inv-loop μ-loop
-block-start-requires c κs = down-ends _ topTerminal (c .before .loop .inv (c .before .before .before .before .before .pre .stacked .stack) (c .before .before .before .before .before .pre .stacked .holds)) (c .loop-test .taken)
+block-start-requires c κs = down-ends _ topTerminal (c .before .loop .inv (c .before .before .before .pre .stack) (c .before .before .before .pre .holds)) (c .loop-test .taken)
 
 slot-word-requires : tie.Need-slot-word-requires Inv-loop μ-loop
-slot-word-requires c κs = let e = down-ends _ topTerminal (c .before .before .loop .inv (c .before .before .before .before .before .before .pre .stacked .stack) (c .before .before .before .before .before .before .pre .stacked .holds)) (c .before .loop-test .taken) in omega (arith, c .block-start .ensures, e .some, e .fits, e .within)
+slot-word-requires c κs =
+    let e = down-ends _ topTerminal (c .before .before .loop .inv (c .before .before .before .before .pre .stack) (c .before .before .before .before .pre .holds)) (c .before .loop-test .taken) in
+    omega (arith, c .block-start .ensures, e .some, e .fits, e .within)
 
 returns : tie.Need-returns Inv-loop μ-loop
 returns c =
@@ -62,7 +33,9 @@ returns c =
     record { found = λ stack h. rw (c .before .slot-word .ensures, e) (top-found (c .before .before .before .before .loop .inv stack h) (c .before .before .before .loop-test .taken) w) }
 
 loop-less : tie.Need-loop-less Inv-loop μ-loop
-loop-less c = let e = down-ends _ topTerminal (c .before .before .before .before .loop .inv (c .before .before .before .before .before .before .before .before .pre .stacked .stack) (c .before .before .before .before .before .before .before .before .pre .stacked .holds)) (c .before .before .before .loop-test .taken) in omega (arith, c .before .before .block-start .ensures, e .some, e .fits, e .within)
+loop-less c =
+    let e = down-ends _ topTerminal (c .before .before .before .before .loop .inv (c .before .before .before .before .before .before .pre .stack) (c .before .before .before .before .before .before .pre .holds)) (c .before .before .before .loop-test .taken) in
+    omega (arith, c .before .before .block-start .ensures, e .some, e .fits, e .within)
 
 loop-again : tie.Need-loop-again Inv-loop μ-loop
 loop-again c =
@@ -79,16 +52,6 @@ top-terminal-spec =
     (tie.spec
     Inv-loop
     μ-loop
-    mul-line
-    add-line
-    add-from
-    mul-from
-    shared-slice-read-from
-    cast-from
-    add-at
-    mul-at
-    shared-slice-read-at
-    cast-at
     loop-holds
     block-start-requires
     slot-word-requires

@@ -3,6 +3,7 @@ use mathlib.Core.Path.{_∙_}
 use native.Mathlib.Omega.{arith}
 use borrow.Author.Needs.{needs}
 use Rattle.reader.specs.ParseLaws.{begun-runs, begun-few, begun-parsed, row-read}
+use Rattle.reader.proofs.Zeroing.{zeroed-front}
 use Rattle.reader.proofs.parsing.read_row.Statement.{statement}
 use Rattle.reader.proofs.parsing.read_row.Tie as tie
 
@@ -34,7 +35,7 @@ returns : tie.Need-returns
 returns c =
     let s = c .before .before .before .before .before .before .before .before .before .before .before .before .before .before .before .before .before .before in
     let o = c .before .before .before .before .before .before .outcome .ensures in
-    row-read (s .pre) (s .args .out .now) (c .before .before .before .before .before .before .before .before .before .before .before .make-moves .ensures) (c .before .before .cleared .ensures .0 ∙ o .0) (o .1) (c .before .before .cleared .ensures .1)
+    row-read (s .pre) (s .args .out .now) (c .before .before .before .before .before .before .before .before .before .before .before .make-moves .ensures) (c .before .before .cleared .ensures .0 ∙ o .0) (o .1) (c .before .before .cleared .ensures .1 ∙ zeroed-front _ _)
 
 pub read-row-spec : {M : Type 1} → statement M
 read-row-spec =

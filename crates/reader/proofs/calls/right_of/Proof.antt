@@ -1,0 +1,123 @@
+-- `calls::right_of` meets its contract: the checks in their order.
+use mathlib.Core.Path.{_≡_, sym, _∙_}
+use mathlib.Core.Bool.{true, false, _&&_}
+use Prim.Native.Nat.{_<_}
+use native.Mathlib.Omega.{arith}
+use lib.ListN.{getD}
+use borrow.Author.Needs.{needs}
+use borrow.Author.Tests.{not-true, not-false}
+use Rattle.laws.specs.Tests.{and-both}
+use Rattle.area.specs.Shape.{inShape}
+use Rattle.reader.specs.declared.moves.Next.the-variants.{Chunk, NoChunk}
+use Rattle.reader.specs.ReadWords.{nextOf, liveAfter}
+use Rattle.reader.specs.Moved.{liveIn, restsIn}
+use Rattle.reader.specs.CallLaws.{there, table-there, live-true}
+use Rattle.reader.specs.JoinCalls.{follows, right-listed, join-bad, join-gone, join-alone, join-moving, join-can, join-made}
+use Rattle.reader.proofs.calls.right_of.Statement.{statement}
+use Rattle.reader.proofs.calls.right_of.Tie as tie
+
+in-shape-requires : tie.Need-in-shape-requires
+in-shape-requires c κs = search needs
+
+returns : tie.Need-returns
+returns c =
+    let a = c .before .before .before .before .before .args in
+    let bad : inShape (a .words .now) (a .matrix .now) (a .area .now) ≡ false = sym (c .before .in-shape .ensures) ∙ not-true _ (c .if1 .taken) in
+    record { offered = join-bad (a .words .now) (a .matrix .now) (a .area .now) (a .c) bad }
+
+is-live-requires : tie.Need-is-live-requires
+is-live-requires c κs =
+    let a = c .before .before .before .before .before .args in
+    let low : getD (a .area .now) 2 0 < 65536 = omega (arith, c .before .before .shared-slice-known3 .given 2) in
+    let shape : inShape (a .words .now) (a .matrix .now) (a .area .now) ≡ true = sym (c .before .in-shape .ensures) ∙ not-false _ (c .if1 .left) in
+    table-there (there (a .words .now) (a .matrix .now) (a .area .now) (a .c) low shape)
+
+returns-2 : tie.Need-returns-2
+returns-2 c =
+    let a = c .before .before .before .before .before .before .before .args in
+    let low : getD (a .area .now) 2 0 < 65536 = omega (arith, c .before .before .before .before .shared-slice-known3 .given 2) in
+    let shape : inShape (a .words .now) (a .matrix .now) (a .area .now) ≡ true = sym (c .before .before .before .in-shape .ensures) ∙ not-false _ (c .before .before .if1 .left) in
+    let gone : liveIn (a .area .now) (a .c) ≡ false = sym (c .before .is-live .ensures) ∙ not-true _ (c .if2 .taken) in
+    record { offered = join-gone (a .words .now) (a .matrix .now) (a .area .now) (a .c) low shape gone }
+
+next-live-requires : tie.Need-next-live-requires
+next-live-requires c κs =
+    let a = c .before .before .before .before .before .before .before .args in
+    let low : getD (a .area .now) 2 0 < 65536 = omega (arith, c .before .before .before .before .shared-slice-known3 .given 2) in
+    let shape : inShape (a .words .now) (a .matrix .now) (a .area .now) ≡ true = sym (c .before .before .before .in-shape .ensures) ∙ not-false _ (c .before .before .if1 .left) in
+    let alive : liveIn (a .area .now) (a .c) ≡ true = sym (c .before .is-live .ensures) ∙ not-false _ (c .if2 .left) in
+    (live-true (a .area .now) (a .c) alive .0, table-there (there (a .words .now) (a .matrix .now) (a .area .now) (a .c) low shape) .1)
+
+enum-known-d : tie.Need-enum-known-d
+enum-known-d c = search needs
+
+at-rest-requires : tie.Need-at-rest-requires
+at-rest-requires c κs =
+    let a = c .before .before .before .before .before .before .before .before .before .before .before .args in
+    let low : getD (a .area .now) 2 0 < 65536 = omega (arith, c .before .before .before .before .before .before .before .before .shared-slice-known3 .given 2) in
+    let shape : inShape (a .words .now) (a .matrix .now) (a .area .now) ≡ true = sym (c .before .before .before .before .before .before .before .in-shape .ensures) ∙ not-false _ (c .before .before .before .before .before .before .if1 .left) in
+    let alive : liveIn (a .area .now) (a .c) ≡ true = sym (c .before .before .before .before .before .is-live .ensures) ∙ not-false _ (c .before .before .before .before .if2 .left) in
+    (live-true (a .area .now) (a .c) alive .0, table-there (there (a .words .now) (a .matrix .now) (a .area .now) (a .c) low shape) .1)
+
+at-rest-requires-2 : tie.Need-at-rest-requires-2
+at-rest-requires-2 c κs =
+    let a = c .before .before .before .before .before .before .before .before .before .before .before .before .args in
+    let low : getD (a .area .now) 2 0 < 65536 = omega (arith, c .before .before .before .before .before .before .before .before .before .shared-slice-known3 .given 2) in
+    let shape : inShape (a .words .now) (a .matrix .now) (a .area .now) ≡ true = sym (c .before .before .before .before .before .before .before .before .in-shape .ensures) ∙ not-false _ (c .before .before .before .before .before .before .before .if1 .left) in
+    let alive : liveIn (a .area .now) (a .c) ≡ true = sym (c .before .before .before .before .before .before .is-live .ensures) ∙ not-false _ (c .before .before .before .before .before .if2 .left) in
+    let d = c .before .before .d .given .0 .0 in
+    let follow : Chunk d ≡ nextOf (liveAfter (a .area .now) (a .c)) = sym (c .before .before .d .given .1) ∙ c .before .before .before .before .next-live .ensures in
+    let h = there (a .words .now) (a .matrix .now) (a .area .now) (a .c) low shape in
+    (right-listed (a .c) h alive (follows (a .c) h alive d follow), table-there h .1)
+
+returns-3 : tie.Need-returns-3
+returns-3 c =
+    let a = c .before .before .before .before .before .before .before .before .before .before .before .before .before .before .args in
+    let low : getD (a .area .now) 2 0 < 65536 = omega (arith, c .before .before .before .before .before .before .before .before .before .before .before .shared-slice-known3 .given 2) in
+    let shape : inShape (a .words .now) (a .matrix .now) (a .area .now) ≡ true = sym (c .before .before .before .before .before .before .before .before .before .before .in-shape .ensures) ∙ not-false _ (c .before .before .before .before .before .before .before .before .before .if1 .left) in
+    let alive : liveIn (a .area .now) (a .c) ≡ true = sym (c .before .before .before .before .before .before .before .before .is-live .ensures) ∙ not-false _ (c .before .before .before .before .before .before .before .if2 .left) in
+    let d = c .before .before .before .before .d .given .0 .0 in
+    let follow : Chunk d ≡ nextOf (liveAfter (a .area .now) (a .c)) = sym (c .before .before .before .before .d .given .1) ∙ c .before .before .before .before .before .before .next-live .ensures in
+    let both = and-both (restsIn (a .area .now) (a .c)) (restsIn (a .area .now) d) (rw (c .before .before .at-rest .ensures, c .before .at-rest2 .ensures) at (c .if3 .taken)) in
+    let made = join-made (a .words .now) (a .matrix .now) (a .area .now) (a .c) low shape alive d follow (both .0) (both .1) in
+    record { offered = (join-can (a .words .now) (a .matrix .now) (a .area .now) (a .c) low shape alive d follow (both .0) (both .1), made .0, made .1) }
+
+enum-told : tie.Need-enum-told
+enum-told c = search needs
+
+returns-4 : tie.Need-returns-4
+returns-4 c =
+    let a = c .before .before .before .before .before .before .before .before .before .before .before .before .before .before .args in
+    let low : getD (a .area .now) 2 0 < 65536 = omega (arith, c .before .before .before .before .before .before .before .before .before .before .before .shared-slice-known3 .given 2) in
+    let shape : inShape (a .words .now) (a .matrix .now) (a .area .now) ≡ true = sym (c .before .before .before .before .before .before .before .before .before .before .in-shape .ensures) ∙ not-false _ (c .before .before .before .before .before .before .before .before .before .if1 .left) in
+    let alive : liveIn (a .area .now) (a .c) ≡ true = sym (c .before .before .before .before .before .before .before .before .is-live .ensures) ∙ not-false _ (c .before .before .before .before .before .before .before .if2 .left) in
+    let d = c .before .before .before .before .d .given .0 .0 in
+    let follow : Chunk d ≡ nextOf (liveAfter (a .area .now) (a .c)) = sym (c .before .before .before .before .d .given .1) ∙ c .before .before .before .before .before .before .next-live .ensures in
+    let moving = rw (c .before .before .at-rest .ensures, c .before .at-rest2 .ensures) at (c .if3 .left) in
+    record { offered = join-moving (a .words .now) (a .matrix .now) (a .area .now) (a .c) low shape alive d follow moving }
+
+returns-5 : tie.Need-returns-5
+returns-5 c =
+    let a = c .before .before .before .before .before .before .before .before .before .before .args in
+    let low : getD (a .area .now) 2 0 < 65536 = omega (arith, c .before .before .before .before .before .before .before .shared-slice-known3 .given 2) in
+    let shape : inShape (a .words .now) (a .matrix .now) (a .area .now) ≡ true = sym (c .before .before .before .before .before .before .in-shape .ensures) ∙ not-false _ (c .before .before .before .before .before .if1 .left) in
+    let alive : liveIn (a .area .now) (a .c) ≡ true = sym (c .before .before .before .before .is-live .ensures) ∙ not-false _ (c .before .before .before .if2 .left) in
+    let alone : NoChunk ≡ nextOf (liveAfter (a .area .now) (a .c)) = sym (c .enum-told .given .1) ∙ c .before .before .next-live .ensures in
+    record { offered = join-alone (a .words .now) (a .matrix .now) (a .area .now) (a .c) low shape alive alone }
+
+pub right-of-spec : {M : Type 1} → statement M
+right-of-spec =
+    tie.close
+    (tie.spec
+    in-shape-requires
+    returns
+    is-live-requires
+    returns-2
+    next-live-requires
+    enum-known-d
+    at-rest-requires
+    at-rest-requires-2
+    returns-3
+    enum-told
+    returns-4
+    returns-5)
