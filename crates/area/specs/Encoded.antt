@@ -14,7 +14,7 @@ use Rattle.laws.specs.Parts.{drop-past}
 use Rattle.language.specs.Trees.{Span}
 use Rattle.language.specs.Reports.{reportWords}
 use Rattle.machine.specs.States.{State}
-use Rattle.area.specs.Layout.{need, front, rows, slots, total, zeros, encode, slotsAt, madeAtWord}
+use Rattle.area.specs.Layout.{need, front, rows, slots, total, zeros, encode, slotsAt, madeAtWord, movesIn}
 use Rattle.area.specs.Lengths.{length-rows, length-slots, length-report, parts-length}
 
 -- the words from slot s on
@@ -54,7 +54,7 @@ module _ (n : ℕ) (s : State Span) (rest : List ℕ) where
   unfolding encode
   chunks-at = refl
 
-  pub moves-at : getD area 2 0 + 65536 * getD area 3 0 ≡ s .moves
+  pub moves-at : movesIn area ≡ s .moves
   unfolding encode
   moves-at = omega arith
 

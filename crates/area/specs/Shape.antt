@@ -18,7 +18,7 @@ use Rattle.language.specs.Checks.{checkSymbols}
 use Rattle.machine.specs.Bounded.{mostMoves}
 use Rattle.area.specs.declared.shape.Scan.{Scan}
 use Rattle.area.specs.declared.shape.Walk.{Walk}
-use Rattle.area.specs.Layout.{need, slotsAt, madeAtWord}
+use Rattle.area.specs.Layout.{need, slotsAt, madeAtWord, movesIn}
 
 -- ---- the grammar and the matrix
 
@@ -197,7 +197,7 @@ abbrev pub potentialOf : Walk → ℕ
 potentialOf w = w .unread + pred (w .symbols) * pred (w .live) + w .terminals + 2 * pred (w .live) + w .running
 
 abbrev pub ruleJ : List ℕ → Walk → Bool
-ruleJ area w = leb (getD area 2 0 + 65536 * getD area 3 0 + potentialOf w) (mostMoves (getD area 0 0) (getD area 1 0))
+ruleJ area w = leb (movesIn area + potentialOf w) (mostMoves (getD area 0 0) (getD area 1 0))
 
 -- that many words are 0
 abbrev pub blank : ℕ → List ℕ → Bool

@@ -80,24 +80,24 @@ emptyStage = record { refusal = λ v. Empty; failsAt = λ input. failing (eqb (l
 abbrev pub lengthStage : Stage StartInput
 lengthStage = record { refusal = λ v. TooLong; failsAt = λ input. failing (ltb 16384 (length (input .tokens))) 0 }
 
-abbrev pub badToken : StartInput → ℕ → Bool
-badToken input i = outside 1 (countT (input .words)) (getD (input .tokens) i 0)
+abbrev pub badTokenAt : ℕ → List ℕ → ℕ → Bool
+badTokenAt t tokens i = outside 1 t (getD tokens i 0)
 
 abbrev pub tokenStage : Stage StartInput
-tokenStage = record { refusal = BadToken; failsAt = λ input. firstBelow (badToken input) (length (input .tokens)) }
+tokenStage = record { refusal = BadToken; failsAt = λ input. firstBelow (badTokenAt (countT (input .words)) (input .tokens)) (length (input .tokens)) }
 
 -- a cut against the one before it, and against n
 abbrev pub cutFalls : List ℕ → ℕ → Bool
 cutFalls cuts zero = false
 cutFalls cuts (suc i) = ltb (getD cuts (suc i) 0) (getD cuts i 0)
 
-abbrev pub badCut : StartInput → ℕ → Bool
-badCut input i = elim (ltb (length (input .tokens)) (getD (input .cuts) i 0)) [ true ↦ true | false ↦ cutFalls (input .cuts) i ]
+abbrev pub badCutAt : ℕ → List ℕ → ℕ → Bool
+badCutAt n cuts i = elim (ltb n (getD cuts i 0)) [ true ↦ true | false ↦ cutFalls cuts i ]
 
 abbrev pub cutStage : Stage StartInput
 cutStage = record {
   refusal = BadCut;
-  failsAt = λ input. elim (ltb 63 (length (input .cuts))) [ true ↦ some 63 | false ↦ firstBelow (badCut input) (length (input .cuts)) ];
+  failsAt = λ input. elim (ltb 63 (length (input .cuts))) [ true ↦ some 63 | false ↦ firstBelow (badCutAt (length (input .tokens)) (input .cuts)) (length (input .cuts)) ];
 }
 
 abbrev pub roomStage : Stage StartInput
@@ -153,12 +153,12 @@ module _ (input : StartInput) where
       of u (too-many h q) = (lt-ltb 16384 (length (input .tokens)) h, q)
 
   tokens-find : Finds (WrongToken input) (tokenStage .failsAt input)
-  tokens-find = first-finds (badToken input) (length (input .tokens)) (WrongToken input) (λ i h e. wrong-token h (outside-iff 1 (countT (input .words)) (getD (input .tokens) i 0) .0 e)) of
+  tokens-find = first-finds (badTokenAt (countT (input .words)) (input .tokens)) (length (input .tokens)) (WrongToken input) (λ i h e. wrong-token h (outside-iff 1 (countT (input .words)) (getD (input .tokens) i 0) .0 e)) of
     where
-      of : (i : ℕ) → WrongToken input i → (i < length (input .tokens)) × (badToken input i ≡ true)
+      of : (i : ℕ) → WrongToken input i → (i < length (input .tokens)) × (badTokenAt (countT (input .words)) (input .tokens) i ≡ true)
       of i (wrong-token h o) = (h, outside-iff 1 (countT (input .words)) (getD (input .tokens) i 0) .1 o)
 
-  cut-to : (i : ℕ) → length (input .cuts) ≤ 63 → i < length (input .cuts) → badCut input i ≡ true → WrongCut input i
+  cut-to : (i : ℕ) → length (input .cuts) ≤ 63 → i < length (input .cuts) → badCutAt (length (input .tokens)) (input .cuts) i ≡ true → WrongCut input i
   cut-to i few h = go (ltb (length (input .tokens)) (getD (input .cuts) i 0)) refl
     where
       falls : (i : ℕ) → i < length (input .cuts) → cutFalls (input .cuts) i ≡ true → WrongCut input i
@@ -170,10 +170,10 @@ module _ (input : StartInput) where
       go true q e = cut-above few h (ltb-true (length (input .tokens)) (getD (input .cuts) i 0) q)
       go false q e = falls i h e
 
-  above-bad : (i : ℕ) → length (input .tokens) < getD (input .cuts) i 0 → badCut input i ≡ true
-  above-bad i h = rw (lt-ltb (length (input .tokens)) (getD (input .cuts) i 0) h, badCut)
+  above-bad : (i : ℕ) → length (input .tokens) < getD (input .cuts) i 0 → badCutAt (length (input .tokens)) (input .cuts) i ≡ true
+  above-bad i h = rw (lt-ltb (length (input .tokens)) (getD (input .cuts) i 0) h, badCutAt)
 
-  falls-bad : (i : ℕ) → cutFalls (input .cuts) i ≡ true → badCut input i ≡ true
+  falls-bad : (i : ℕ) → cutFalls (input .cuts) i ≡ true → badCutAt (length (input .tokens)) (input .cuts) i ≡ true
   falls-bad i f = go (ltb (length (input .tokens)) (getD (input .cuts) i 0))
     where
       go : (b : Bool) → elim b [ true ↦ true | false ↦ cutFalls (input .cuts) i ] ≡ true
@@ -188,19 +188,19 @@ module _ (input : StartInput) where
       many h u (cut-above few i a) = absurd (omega arith)
       many h u (cut-below few i a) = absurd (omega arith)
 
-      of : length (input .cuts) ≤ 63 → (i : ℕ) → WrongCut input i → (i < length (input .cuts)) × (badCut input i ≡ true)
+      of : length (input .cuts) ≤ 63 → (i : ℕ) → WrongCut input i → (i < length (input .cuts)) × (badCutAt (length (input .tokens)) (input .cuts) i ≡ true)
       of few i (too-many-cuts k) = absurd (omega arith)
       of few i (cut-above f h a) = (h, above-bad i a)
       of few i (cut-below {i = j} f h a) = (h, falls-bad (suc j) (lt-ltb (getD (input .cuts) (suc j) 0) (getD (input .cuts) j 0) a))
 
       go : (b : Bool) → ltb 63 (length (input .cuts)) ≡ b
-          → Finds (WrongCut input) (elim b [ true ↦ some 63 | false ↦ firstBelow (badCut input) (length (input .cuts)) ])
+          → Finds (WrongCut input) (elim b [ true ↦ some 63 | false ↦ firstBelow (badCutAt (length (input .tokens)) (input .cuts)) (length (input .cuts)) ])
       go true e =
           let h = ltb-true 63 (length (input .cuts)) e in
           least (record { holds = too-many-cuts h; least = λ u l w. let q = many h u w in omega arith })
       go false e =
           let few = ltb-false 63 (length (input .cuts)) e in
-          first-finds (badCut input) (length (input .cuts)) (WrongCut input) (λ i h t. cut-to i few h t) (of few)
+          first-finds (badCutAt (length (input .tokens)) (input .cuts)) (length (input .cuts)) (WrongCut input) (λ i h t. cut-to i few h t) (of few)
 
   room-finds : Finds (NoRoomForRow input) (roomStage .failsAt input)
   room-finds = failing-finds (NoRoomForRow input) (ltb (input .room) (needed input)) (needed input) (λ e. no-room (ltb-true (input .room) (needed input) e) refl) of

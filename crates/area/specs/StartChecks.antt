@@ -3,10 +3,9 @@
 -- Document 01: "Start checks 15 .., 7, 8, 9, 10, 11"; the table's "first such place" and "63, else first bad cut's index".
 -- Rests on Start and StartKept, on laws' Least, and on language's Stages.
 --
--- Main definitions: Clear, badTokenAt, badCutAt, tokensAnswer, cutsAnswer, Writable.
--- Main statements: found-at, first-nowhere (what a search finds is what the definition finds); the answer, check by check: no-token,
--- many-tokens, bad-token, right-tokens, many-cuts, bad-cut, small-room, enough-room, broken-grammar, refused-tokens, then-cuts;
--- writable, right-cuts (what holds where nothing is refused).
+-- Main definitions: tokensAnswer, cutsAnswer, Writable.
+-- Main statements: the answer, check by check: no-token, many-tokens, bad-token, right-tokens, many-cuts, bad-cut, small-room, enough-room,
+-- broken-grammar, refused-tokens, then-cuts; writable, right-cuts (what holds where nothing is refused).
 use mathlib.Core.Path.{_≡_, refl, sym, ap, _∙_}
 use mathlib.Core.Bool.{Bool, true, false, _||_, false≢true}
 use mathlib.Core.List.{List, [], _∷_}
@@ -24,13 +23,13 @@ use Rattle.language.specs.declared.Refusal.{Refusal}
 use Rattle.language.specs.declared.Refusal.the-variants.{BadState, Empty, TooLong, BadToken, BadCut, NoRoom}
 use Rattle.language.specs.declared.Answer.{Answer}
 use Rattle.language.specs.declared.Answer.the-variants.{Done, Refused}
-use Rattle.language.specs.Words.{countT, outside}
+use Rattle.language.specs.Words.{countT}
 use Rattle.language.specs.Stages.{checked, thenChecked, checked-append}
 use Rattle.language.specs.Checks.{checkSymbols}
 use Rattle.area.specs.Layout.{need}
 use Rattle.area.specs.Shape.{grammarInShape}
 use Rattle.area.specs.Start.{StartInput, failing, emptyStage, lengthStage, tokenStage, cutStage, roomStage}
-use Rattle.area.specs.Start.{startAnswer, cutFalls, no-room, Startable, starts-exactly}
+use Rattle.area.specs.Start.{startAnswer, badTokenAt, cutFalls, badCutAt, no-room, Startable, starts-exactly}
 use Rattle.area.specs.StartKept.{GoodCuts, few-tokens, few-cuts, cut-within, cuts-good}
 
 -- what one check finds is refused; where it finds nothing the answer is that of the later ones
@@ -38,10 +37,6 @@ abbrev pub refusedBy : (ℕ → Refusal) → Option ℕ → Answer → Answer
 refusedBy refusal found later = elim found [ none ↦ later | some v ↦ Refused (refusal v) ]
 
 -- ---- 7, 8, 9
-
--- 9: a token outside 1..t
-abbrev pub badTokenAt : ℕ → List ℕ → ℕ → Bool
-badTokenAt t tokens i = outside 1 t (getD tokens i 0)
 
 abbrev pub tokensAnswer : ℕ → List ℕ → Answer
 tokensAnswer t tokens =
@@ -73,10 +68,6 @@ module _ (t : ℕ) (tokens : List ℕ) where
       omega arith
 
 -- ---- 10, 11
-
--- 10: a cut above n or below its predecessor
-abbrev pub badCutAt : ℕ → List ℕ → ℕ → Bool
-badCutAt n cuts i = elim (ltb n (getD cuts i 0)) [ true ↦ true | false ↦ cutFalls cuts i ]
 
 -- .. of which there may be 63
 abbrev pub badCuts : ℕ → List ℕ → Option ℕ

@@ -36,7 +36,7 @@ use Rattle.machine.specs.TableOf.{tableOf}
 use Rattle.machine.specs.Schedules.{Turned, by-step, by-join, Schedule, no-turn, one-turn}
 use Rattle.machine.specs.Counts.{made-scheduled, run-exactly}
 use Rattle.machine.specs.Answers.{outcomeAnswer, outcomeOut}
-use Rattle.area.specs.Layout.{need, zeros, encode, decode}
+use Rattle.area.specs.Layout.{need, zeros, encode, decode, needIn}
 use Rattle.area.specs.Lengths.{length-report, encode-length}
 use Rattle.area.specs.Shape.{grammarInShape, inShape}
 use Rattle.area.specs.ShapeExactly.{HoldsState}
@@ -51,7 +51,7 @@ use Rattle.reader.specs.ParseCall.{parsedAnswer, parsedArea, parsedOut, parseOu
 use Rattle.report.specs.ReportCall.{reportOutcome, reportAnswer, reportOut}
 use Rattle.demands.specs.OwnMatrix.{own-shape}
 use Rattle.demands.specs.Reached.{stuck-number}
-use Rattle.demands.specs.PublicCalls.{PublicCall, number-of, value-of, check-symbols, check-words, load, left-set, right-set, in-shape, start, step, run, join, report, parse, entry-tokens, numberFor, numbersFor, needIn, wordsOf, Written, written}
+use Rattle.demands.specs.PublicCalls.{PublicCall, number-of, value-of, check-symbols, check-words, load, left-set, right-set, in-shape, start, step, run, join, report, parse, entry-tokens, numberFor, numbersFor, wordsOf, Written, written}
 use Rattle.demands.specs.GivenDemand.{StepGiven, step-15, step-12, step-13, step-0, RunGiven, run-15, run-12, run-13, run-0, JoinGiven, join-15, join-12, join-14, join-0, ReportGiven, report-15, report-16, report-stuck, report-11, report-0, ParseGiven, parse-words, parse-row, parse-stuck, parse-11, parse-0, lentToLoad, load-given, lentToSet, lentToStart, start-given, step-broken, step-is, run-broken, run-is, join-broken, join-is, parse-begins, parse-refused, refused-by-load, refused-by-start, given-for}
 
 -- ---- the numbers

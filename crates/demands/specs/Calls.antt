@@ -7,8 +7,8 @@
 -- Main definitions: Call, callNumber, callMade, callArea; areaAfter, movesMade; OfLoad, AllOfLoad, Begun.
 use mathlib.Core.Path.{_≡_}
 use mathlib.Core.List.{List, [], _∷_}
-use Prim.Native.Nat.{ℕ, _+_, _*_}
-use lib.ListN.{length, getD, take}
+use Prim.Native.Nat.{ℕ, _+_}
+use lib.ListN.{length, take}
 use Rattle.language.specs.declared.Answer.{Answer}
 use Rattle.language.specs.declared.Answer.the-variants.{Done, Refused}
 use Rattle.language.specs.declared.RunAnswer.{RunAnswer}
@@ -67,10 +67,6 @@ areaAfter words area (call ∷ calls) = areaAfter words (callArea words area cal
 abbrev pub movesMade : List ℕ → List ℕ → List Call → ℕ
 movesMade words area [] = 0
 movesMade words area (call ∷ calls) = callMade words area call + movesMade words (callArea words area call) calls
-
--- the count of moves that stands in the area
-abbrev pub countIn : List ℕ → ℕ
-countIn area = getD area 2 0 + 65536 * getD area 3 0
 
 -- ---- one accepted load, one accepted start
 

@@ -27,16 +27,16 @@ use Rattle.machine.specs.Counts.{RunNamed}
 use Rattle.machine.specs.ReadThrough.{ReadThrough}
 use Rattle.machine.specs.Confluent.{withoutMoves}
 use Rattle.machine.specs.UncutRow.{InLanguage, AxiomTree}
-use Rattle.area.specs.Layout.{need, encode, decode}
+use Rattle.area.specs.Layout.{need, encode, decode, movesIn, beyondIn}
 use Rattle.area.specs.Shape.{inShape}
 use Rattle.area.specs.Start.{startAnswer}
 use Rattle.area.specs.Safe.{Safe}
 use Rattle.reader.specs.ParseCall.{parseOutcome, parseAnswer, parseOut}
 use Rattle.report.specs.ReportCall.{reportOutcome, reportAnswer, reportOut}
-use Rattle.demands.specs.PublicCalls.{PublicCall, GivesBack, promised, numberFor, numbersFor, needIn, Written, written}
+use Rattle.demands.specs.PublicCalls.{PublicCall, GivesBack, promised, numberFor, numbersFor, Written, written}
 use Rattle.demands.specs.GivenDemand.{GivenFor}
 use Rattle.demands.specs.AnswersDemand.{ParseAreaLeft}
-use Rattle.demands.specs.Calls.{Call, matrixFor, callMade, areaAfter, movesMade, countIn, OfLoad, AllOfLoad, Begun}
+use Rattle.demands.specs.Calls.{Call, matrixFor, callMade, areaAfter, movesMade, OfLoad, AllOfLoad, Begun}
 use Rattle.demands.specs.OwnMatrix.{ownTable}
 use Rattle.demands.specs.Standing.{Standing}
 use Rattle.demands.specs.ParseDemand.{RightTokens, UncutReader, entriesOf, ParseReports, GotStuck}
@@ -105,12 +105,9 @@ Demand-2-parse =
 
 -- ---- demand 2, step, run and join
 
--- how many tokens an area tells of, and what stands beyond the words that it needs
+-- how many tokens an area tells of
 abbrev pub tokensIn : List ℕ → ℕ
 tokensIn area = getD area 0 0
-
-abbrev pub beyondIn : List ℕ → List ℕ
-beyondIn area = drop (needIn area) area
 
 pub record MovesRight (words matrix area : List ℕ) : Type 0 where
   -- the area has the words of the state s that it decodes to, which keeps the rules
@@ -152,7 +149,7 @@ pub record AnyOrder (words bytes tokens cuts area₀ : List ℕ) (calls : List C
       → (call : Call) → OfLoad words bytes (matrixFor call) → callMade words area call ≡ 0
   -- (c) steps accepted, answers of runs and joins accepted are together the area's count, at most nC + n + 4C - 2, C a chunk more than
   -- cuts; a report's own count is this too
-  pub counted : countIn area ≡ movesMade words area₀ calls
+  pub counted : movesIn area ≡ movesMade words area₀ calls
   pub few : movesMade words area₀ calls ≤ length tokens * (length cuts + 1) + length tokens + 4 * (length cuts + 1) - 2
   pub report-count : (matrix : List ℕ) → OfLoad words bytes matrix → (room : ℕ) {entries count : ℕ} → reportAnswer words matrix area room ≡ Report entries count
       → count ≡ movesMade words area₀ calls

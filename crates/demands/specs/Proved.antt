@@ -8,7 +8,7 @@
 -- demand-3: any order of calls after one accepted load and one accepted start. demand-3-finishes: those that go on while they can finish.
 -- start-never-15: nor does a start after an accepted load answer 15.
 use mathlib.Core.Path.{sym, subst, _∙_}
-use mathlib.Core.Bool.{true, true≢false}
+use mathlib.Core.Bool.{true≢false}
 use mathlib.Core.Logic.{_↔_}
 use mathlib.Core.List.{List}
 use Prim.Native.Nat.{ℕ}
@@ -18,7 +18,7 @@ use Rattle.machine.specs.TableOf.{tableOf}
 use Rattle.machine.specs.Allowed.{Steps, JoinsAt}
 use Rattle.machine.specs.Counts.{RunNamed}
 use Rattle.machine.specs.ReadThrough.{read-once}
-use Rattle.area.specs.Layout.{decode}
+use Rattle.area.specs.Layout.{decode, beyondIn}
 use Rattle.area.specs.Start.{bad-state-given}
 use Rattle.demands.specs.GivenDemand.{given-for}
 use Rattle.demands.specs.AnswersDemand.{number-listed, lent-kept, beyond-kept, parse-area-left}
@@ -31,7 +31,7 @@ use Rattle.demands.specs.Reached.{each-right, report-never-15, moves-cou
 use Rattle.demands.specs.SameReport.{same-but-moves, same-report, report-counts}
 use Rattle.demands.specs.Finishing.{some-move, finished-stays, lists-end, goes-on-finishes, can-finish}
 use Rattle.demands.specs.Contracts.{contracts}
-use Rattle.demands.specs.Demands.{Demand-1-contracts, Demand-1, Demand-1-parse, Demand-2-parse, Demand-2-moves, Demand-2-reached, Demand-3, Demand-3-finishes, Start-never-15, tokensIn, beyondIn}
+use Rattle.demands.specs.Demands.{Demand-1-contracts, Demand-1, Demand-1-parse, Demand-2-parse, Demand-2-moves, Demand-2-reached, Demand-3, Demand-3-finishes, Start-never-15, tokensIn}
 
 pub demand-1-contracts : Demand-1-contracts
 demand-1-contracts M = contracts

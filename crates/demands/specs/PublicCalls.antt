@@ -9,7 +9,7 @@
 use mathlib.Core.Bool.{Bool}
 use mathlib.Core.List.{List, [], _∷_}
 use Prim.Native.Nat.{ℕ, _+_, _*_}
-use lib.ListN.{length, getD}
+use lib.ListN.{length}
 use Rattle.language.specs.declared.Refusal.{Refusal}
 use Rattle.language.specs.declared.Answer.{Answer}
 use Rattle.language.specs.declared.SetAnswer.{SetAnswer}
@@ -19,7 +19,7 @@ use Rattle.language.specs.declared.ReportAnswer.the-variants.{Report, Refused}
 use Rattle.language.specs.Refusals.{numberOf, valueOf, answerNumber, setNumber, runNumber, reportNumber}
 use Rattle.language.specs.Checks.{checkSymbols, checkWords}
 use Rattle.language.specs.Loads.{loadAnswer, loadBytes, leftSetAnswer, rightSetAnswer}
-use Rattle.area.specs.Layout.{need}
+use Rattle.area.specs.Layout.{need, needIn}
 use Rattle.area.specs.Shape.{inShape}
 use Rattle.area.specs.Start.{startAnswer, startArea}
 use Rattle.reader.specs.Calls.{stepAnswer, stepArea, runAnswer, runArea, joinAnswer, joinArea}
@@ -116,10 +116,6 @@ numbersFor (join words matrix area c) = 15 ∷ 12 ∷ 14 ∷ []
 numbersFor (report words matrix area out) = 15 ∷ 16 ∷ 17 ∷ 18 ∷ 19 ∷ 20 ∷ 11 ∷ []
 numbersFor (parse words tokens area out) = 1 ∷ 2 ∷ 3 ∷ 4 ∷ 5 ∷ 6 ∷ 7 ∷ 8 ∷ 9 ∷ 11 ∷ 17 ∷ 18 ∷ 19 ∷ 20 ∷ 11 ∷ []
 numbersFor (entry-tokens entries e tokens place) = []
-
--- how many words an area tells that it needs
-abbrev pub needIn : List ℕ → ℕ
-needIn area = need (getD area 0 0) (getD area 1 0)
 
 -- how many words of a report run are written: three an entry, none on a refusal
 abbrev pub wordsOf : ReportAnswer → ℕ

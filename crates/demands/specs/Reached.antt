@@ -26,11 +26,12 @@ use Rattle.machine.specs.Answers.{outcomeAnswer}
 use Rattle.machine.specs.Bounded.{mostMoves, bounded}
 use Rattle.machine.specs.Counts.{moves-since-start}
 use Rattle.machine.specs.GivenExactly.{outcome-refuses}
+use Rattle.area.specs.Layout.{movesIn}
 use Rattle.area.specs.Encoded.{moves-at, low-moves-at}
 use Rattle.area.specs.Shape.{inShape}
 use Rattle.area.specs.StartKept.{no-end}
 use Rattle.report.specs.ReportCall.{reportOutcome, reportAnswer}
-use Rattle.demands.specs.Calls.{Call, matrixFor, callNumber, callMade, callArea, areaAfter, movesMade, countIn, OfLoad, AllOfLoad, no-call, and-call, Begun}
+use Rattle.demands.specs.Calls.{Call, matrixFor, callNumber, callMade, callArea, areaAfter, movesMade, OfLoad, AllOfLoad, no-call, and-call, Begun}
 use Rattle.demands.specs.OwnMatrix.{ownTable, own-end-mark, accepted, shape-is}
 use Rattle.demands.specs.OnWords.{stands, report-is}
 use Rattle.demands.specs.Standing.{Standing, CallView, refused-so, moved-so, startable, standing-begun, standing-safe, standing-view, standing-call, standing-after}
@@ -139,9 +140,9 @@ module _ {words bytes tokens cuts area₀ : List ℕ} (begun : Begun words bytes
         go (number-0 e) h = omega arith
 
   -- (c) steps accepted + answers of runs + joins accepted = the area's count
-  pub moves-counted : countIn area ≡ movesMade words area₀ calls
+  pub moves-counted : movesIn area ≡ movesMade words area₀ calls
   moves-counted =
-      ap countIn (there .area-is) ∙ moves-at (length tokens) (there .state) (there .rest)
+      ap movesIn (there .area-is) ∙ moves-at (length tokens) (there .state) (there .rest)
       ∙ moves-since-start (ownTable words) tokens cuts (there .turns)
 
   -- .. at most nC + n + 4C - 2, C a chunk more than cuts

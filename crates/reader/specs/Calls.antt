@@ -5,11 +5,10 @@
 -- Rests on area's Layout and Shape, and on machine's States and TableOf.
 --
 -- Main definitions: stepAnswer, stepArea, runAnswer, runArea, joinAnswer, joinArea.
-use mathlib.Core.Bool.{Bool, true, false}
+use mathlib.Core.Bool.{true, false}
 use mathlib.Core.List.{List, _++_}
 use Prim.Native.Nat.{ℕ}
-use lib.ListN.{getD, drop}
-use Rattle.language.specs.declared.Refusal.{Refusal}
+use lib.ListN.{getD}
 use Rattle.language.specs.declared.Refusal.the-variants.{BadState}
 use Rattle.language.specs.declared.Answer.{Answer}
 use Rattle.language.specs.declared.Answer.the-variants.{Done, Refused}
@@ -19,12 +18,12 @@ use Rattle.language.specs.Trees.{Span}
 use Rattle.machine.specs.States
 use Rattle.machine.specs.States.{State, Called, refused, became, Ran, refusedRun, ran}
 use Rattle.machine.specs.TableOf.{tableOf}
-use Rattle.area.specs.Layout.{need, encode, decode}
+use Rattle.area.specs.Layout.{encode, decode, beyondIn}
 use Rattle.area.specs.Shape.{inShape}
 
 -- the area with this state's words; what stood beyond them is untouched
 abbrev pub withState : List ℕ → State Span → List ℕ
-withState area s = encode (getD area 0 0) s ++ drop (need (getD area 0 0) (getD area 1 0)) area
+withState area s = encode (getD area 0 0) s ++ beyondIn area
 
 -- ---- step and join
 

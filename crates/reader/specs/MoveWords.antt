@@ -12,7 +12,7 @@ use Prim.Native.Nat.{ℕ, zero, suc, _+_, _*_, _-_, _/_, _%_, _<_, _≤_}
 use lib.ListN.{length, getD, take, drop, set}
 use Rattle.language.specs.Trees.{Span}
 use Rattle.machine.specs.Entries.{Entry}
-use Rattle.area.specs.Layout.{stackSize, stackWords, zeros, tableAt, rowWord, slotsAt, slotWord, madeAtWord}
+use Rattle.area.specs.Layout.{stackSize, stackWords, zeros, tableAt, rowWord, slotsAt, slotWord, madeAtWord, movesIn}
 
 -- ---- a chunk's row of the table
 
@@ -34,9 +34,6 @@ abbrev pub slotAt : List ℕ → ℕ → ℕ
 slotAt area s = slotsAt area + 4 * s
 
 -- ---- the count of moves
-
-abbrev pub movesIn : List ℕ → ℕ
-movesIn area = getD area 2 0 + 65536 * getD area 3 0
 
 -- one move more
 unfoldable pub tickWords : List ℕ → List ℕ

@@ -3,11 +3,11 @@
 ghost use mathlib.Core.Path.{_≡_};
 ghost use Prim.Native.Nat.{_+_, _*_, _-_, _≤_, _<_};
 ghost use lib.ListN.{length, getD};
-ghost use Rattle.area.specs.Layout.{slotsAt, slotWord, tableAt, rowWord};
+ghost use Rattle.area.specs.Layout.{slotsAt, slotWord, tableAt, rowWord, movesIn};
 ghost use Rattle.reader.specs.MoveWords.{tickWords, pushWords, stickWords, acceptWords, unmarkWords, joinWords};
 ghost use Rattle.reader.specs.MoveWords.{startOf, clearedOne, clearedWords, laidWords, notedWords, reduceWords};
 ghost use Rattle.reader.specs.MoveWords.{Ticks, Pushable, Stickable, Acceptable, Joinable, Tagged, Laid, Roomy, Reducible};
-ghost use Rattle.reader.specs.MoveWords.{slotAt, movesIn};
+ghost use Rattle.reader.specs.MoveWords.{slotAt};
 ghost use Rattle.reader.specs.ReadWords.{Stacked, EndsBlock, startSlot, TopIs, NonterminalOnTop, EndAndAxiom, BelowMark, HandleStarts, nextOf, liveAfter};
 ghost use Rattle.reader.specs.MatchWords.{Readable, Whole, handleWords, matchWords, matchedOf};
 ghost use Rattle.language.specs.Words.{countR, entry, bodyEnd};

@@ -27,7 +27,7 @@ use Rattle.machine.specs.Moves.{noRelation, noRule, notAxiom, sideBySide}
 use Rattle.machine.specs.Chunks.{Status, running, stuck, Chunk}
 use Rattle.machine.specs.States.{State, Outcome, refusedRow, reported, live, outcomeOf, outcomeOfLive, outcome}
 use Rattle.machine.specs.Starts.{symbolsAlong}
-use Rattle.area.specs.Layout.{need, size, stackSize, unreadSize, chunkSize, statusWord, row, rows, encode, madeAtWord, spanAt, readMade, decode}
+use Rattle.area.specs.Layout.{need, size, stackSize, unreadSize, chunkSize, statusWord, row, rows, encode, madeAtWord, spanAt, readMade, movesIn, decode}
 use Rattle.area.specs.Kept.{Lies, first-end, last-end, within, Tiles, tile, FirstLive, first-live, not-stuck, stuck-fine, AllStuckFine, and-chunk}
 use Rattle.area.specs.Lengths.{stack-size, tiles-end, encode-length, few-reductions}
 use Rattle.area.specs.Tiling.{tiles-split}
@@ -53,7 +53,7 @@ wordsOutcome area =
     pick (noneLive (getD area 1 0 - 1) area 10)
     (pick (leb 17 (getD area 5 0)) (refusedRow (stuckRefusal (getD area 5 0) (getD area 7 0 - 1)))
     (pick (ltb (getD area 7 0) (getD area 8 0)) (refusedRow Unfinished)
-    (reported (putInOrder (readMade (getD area 4 0) area (madeAtWord area))) (getD area 2 0 + 65536 * getD area 3 0))))
+    (reported (putInOrder (readMade (getD area 4 0) area (madeAtWord area))) (movesIn area))))
     (refusedRow Unfinished)
 
 -- what is read lies within the area; there are at most 16,384 reductions; chunk 0 has something on its stack

@@ -4,8 +4,8 @@ use mathlib.Core.Path.{_≡_, sym, ap, _∙_}
 use native.Mathlib.Omega.{arith}
 use lib.Dec.{ltb}
 use lib.ListN.{length, getD}
-use Rattle.area.specs.Start.{cutFalls}
-use Rattle.area.specs.StartChecks.{Clear, clear-more, badCutAt, cut-by, falls-first, falls-next, many-cuts, bad-cut, small-room, enough-room}
+use Rattle.area.specs.Start.{cutFalls, badCutAt}
+use Rattle.area.specs.StartChecks.{Clear, clear-more, cut-by, falls-first, falls-next, many-cuts, bad-cut, small-room, enough-room}
 use borrow.Author.Needs.{needs}
 use Rattle.area.proofs.begin.check_cuts.Statement.{statement}
 use Rattle.area.proofs.begin.check_cuts.Tie as tie

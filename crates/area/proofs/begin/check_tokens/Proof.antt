@@ -2,7 +2,8 @@
 use Prim.Native.Nat.{_-_}
 use native.Mathlib.Omega.{arith}
 use lib.ListN.{length}
-use Rattle.area.specs.StartChecks.{Clear, clear-more, badTokenAt, no-token, many-tokens, bad-token, right-tokens}
+use Rattle.area.specs.Start.{badTokenAt}
+use Rattle.area.specs.StartChecks.{Clear, clear-more, no-token, many-tokens, bad-token, right-tokens}
 use borrow.Author.Needs.{needs}
 use Rattle.area.proofs.begin.check_tokens.Statement.{statement}
 use Rattle.area.proofs.begin.check_tokens.Tie as tie
