@@ -140,11 +140,11 @@ def reached_sets(read, sides):
             fronts[left].add(w[0] - NONTERMINAL)
     masks = []
     for k in range(read.N):
-        seen, todo = {k}, [k]
-        while todo:
-            new = fronts[todo.pop()] - seen
+        seen, waiting = {k}, [k]
+        while waiting:
+            new = fronts[waiting.pop()] - seen
             seen |= new
-            todo += new
+            waiting += new
         found = {w[1] if is_nonterminal(w[0]) else w[0] for left, w in sides if left in seen}
         masks.append(sum(1 << a for a in found))
     return masks
@@ -255,10 +255,10 @@ def many_chunks():
 
 def every_schedule(read, table, tokens, cuts, wanted):
     """All states that a start reaches by single moves and joins."""
-    seen, todo = set(), [chunks.first_state(tokens, cuts)]
+    seen, waiting = set(), [chunks.first_state(tokens, cuts)]
     most = bound(len(tokens), len(cuts) + 1)
-    while todo:
-        state = todo.pop()
+    while waiting:
+        state = waiting.pop()
         expect(state.moves <= most, "too many moves", tokens=tokens, cuts=cuts)
         calls = allowed(state)
         same(bool(calls), not state.finished, "finished or not", tokens=tokens, cuts=cuts, state=state)
@@ -273,7 +273,7 @@ def every_schedule(read, table, tokens, cuts, wanted):
             key = repr(after)
             if key not in seen:
                 seen.add(key)
-                todo.append(after)
+                waiting.append(after)
     COUNTS["states of all schedules"] += len(seen)
 
 

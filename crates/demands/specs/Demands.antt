@@ -33,7 +33,7 @@ use Rattle.area.specs.Start.{startAnswer}
 use Rattle.area.specs.Safe.{Safe}
 use Rattle.reader.specs.ParseCall.{parseOutcome, parseAnswer, parseOut}
 use Rattle.report.specs.ReportCall.{reportOutcome, reportAnswer, reportOut}
-use Rattle.demands.specs.PublicCalls.{PublicCall, GivesBack, promised, numberFor, numbersFor, Written, written}
+use Rattle.demands.specs.PublicCalls.{PublicCall, GivesBack, promised, Keeps, numberFor, numbersFor, Written, written}
 use Rattle.demands.specs.GivenDemand.{GivenFor}
 use Rattle.demands.specs.AnswersDemand.{ParseAreaLeft}
 use Rattle.demands.specs.Calls.{Call, matrixFor, callMade, areaAfter, movesMade, OfLoad, AllOfLoad, Begun}
@@ -62,8 +62,9 @@ Demand-1-contracts =
 
 -- any public call with any words lent to it, whatever they are
 pub record Answers (call : PublicCall) : Type 1 where
-  -- "The promise admits one answer only", and one content of each run
-  pub one-only : (x y : GivesBack call) → x ≡ promised call → y ≡ promised call → x ≡ y
+  -- "The promise admits one answer only": some answer and some content of each run keep the lines of the contract, and no other
+  pub answered : Keeps call (promised call)
+  pub one-only : (x y : GivesBack call) → Keeps call x → Keeps call y → x ≡ y
   -- "A refusal carries its listed number": 0, or one of the numbers that document 01 lists for the call, in the order of its checks
   pub listed : List·Memᴰ (numberFor call) (0 ∷ numbersFor call)
   -- ".. and place": an answer, with its value, is given exactly when its sentence of the table holds and the checks before it passed

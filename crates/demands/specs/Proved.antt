@@ -30,7 +30,7 @@ use Rattle.demands.specs.MoveDemand.{StepLeaves, RunLeaves, JoinLeaves, 
 use Rattle.demands.specs.Reached.{each-right, report-never-15, moves-counted, moves-few, in-shape-there, low-there}
 use Rattle.demands.specs.SameReport.{same-but-moves, same-report, report-counts}
 use Rattle.demands.specs.Finishing.{some-move, finished-stays, lists-end, goes-on-finishes, can-finish}
-use Rattle.demands.specs.Contracts.{contracts}
+use Rattle.demands.specs.Contracts.{contracts, promise-kept, one-answer-only}
 use Rattle.demands.specs.Demands.{Demand-1-contracts, Demand-1, Demand-1-parse, Demand-2-parse, Demand-2-moves, Demand-2-reached, Demand-3, Demand-3-finishes, Start-never-15, tokensIn}
 
 pub demand-1-contracts : Demand-1-contracts
@@ -38,7 +38,8 @@ demand-1-contracts M = contracts
 
 pub demand-1 : Demand-1
 demand-1 call = record {
-  one-only = λ x y p q. p ∙ sym q;
+  answered = promise-kept call;
+  one-only = one-answer-only call;
   listed = number-listed call;
   given = given-for call;
   refused-keeps = lent-kept call;

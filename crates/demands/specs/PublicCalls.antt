@@ -5,7 +5,8 @@
 -- A run that a call only reads is lent as shared, so that no program can write to it; of the others the contract gives every word.
 -- Rests on the definitions that the contracts cite, and on nothing else.
 --
--- Main definitions: PublicCall; GivesBack, promised (that the contracts say just this: Contracts); numberFor, numbersFor; Written, written.
+-- Main definitions: PublicCall; GivesBack, promised, Keeps (that the contracts in code say just this: Contracts); numberFor, numbersFor; Written, written.
+use mathlib.Core.Path.{_≡_}
 use mathlib.Core.Bool.{Bool}
 use mathlib.Core.List.{List, [], _∷_}
 use Prim.Native.Nat.{ℕ, _+_, _*_}
@@ -80,6 +81,31 @@ promised (report words matrix area out) = (reportAnswer words matrix area (lengt
 promised (parse words tokens area out) =
     (parseAnswer words tokens (length area) (length out), parseArea words tokens area, parseOut words tokens (length area) out)
 promised (entry-tokens entries e tokens place) = (entryTokens entries e tokens, wordAddress place (entryStart entries e (length tokens)))
+
+-- two lines of a contract, and three, each an equation
+abbrev pub Both : {A B : Type 0} → A × B → A × B → Type 0
+Both x p = (x .0 ≡ p .0) × (x .1 ≡ p .1)
+
+abbrev pub AllThree : {A B C : Type 0} → A × B × C → A × B × C → Type 0
+AllThree x p = (x .0 ≡ p .0) × (x .1 ≡ p .1) × (x .2 ≡ p .2)
+
+-- the contract is kept: a line for the answer, and one for each run that the call may write
+abbrev pub Keeps : (call : PublicCall) → GivesBack call → Type 0
+Keeps (number-of refusal) x = x ≡ promised (number-of refusal)
+Keeps (value-of refusal) x = x ≡ promised (value-of refusal)
+Keeps (check-symbols words) x = x ≡ promised (check-symbols words)
+Keeps (check-words words) x = x ≡ promised (check-words words)
+Keeps (load words bytes) x = Both x (promised (load words bytes))
+Keeps (left-set words k) x = x ≡ promised (left-set words k)
+Keeps (right-set words k) x = x ≡ promised (right-set words k)
+Keeps (in-shape words matrix area) x = x ≡ promised (in-shape words matrix area)
+Keeps (start words matrix tokens cuts area) x = Both x (promised (start words matrix tokens cuts area))
+Keeps (step words matrix area c) x = Both x (promised (step words matrix area c))
+Keeps (run words matrix area c budget) x = Both x (promised (run words matrix area c budget))
+Keeps (join words matrix area c) x = Both x (promised (join words matrix area c))
+Keeps (report words matrix area out) x = Both x (promised (report words matrix area out))
+Keeps (parse words tokens area out) x = AllThree x (promised (parse words tokens area out))
+Keeps (entry-tokens entries e tokens place) x = Both x (promised (entry-tokens entries e tokens place))
 
 -- the number of the answer; a call that refuses nothing has 0
 abbrev pub numberFor : PublicCall → ℕ
