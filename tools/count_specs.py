@@ -31,7 +31,7 @@ CRATES = os.path.join(ROOT, "crates")
 
 # files whose `pub fn` are the library's public functions
 CONTRACTS = [
-    "language/src/lib.rt", "table/src/lib.rt", "area/src/lib.rt", "reader/src/lib.rt", "report/src/lib.rt",
+    "refusals/src/lib.rt", "table/src/lib.rt", "area/src/lib.rt", "reader/src/lib.rt", "report/src/lib.rt",
     "text/src/reading.rt", "text/src/writing.rt", "grugalash/src/lib.rt",
 ]
 PUBLIC = re.compile(r'^pub (?:extern "C" )?fn (\w+)')
@@ -64,7 +64,7 @@ FILES_BEGIN, FILES_END = "<!-- files begin -->", "<!-- files end -->"
 SECTIONS = ["What the library covers", "Numbers", "The grammar words", "Sets and matrix", "Moves of a chunk", "The report", "Refusal numbers", "Sample rows",
             "Errors my students make", "Forms to use in the code", "How far promises go"]
 KEYWORDS = {"abbrev", "unfoldable", "data", "record", "bad", "ensures", "use"}
-ORDER = ["language", "laws", "machine", "table", "area", "reader", "report", "demands", "text", "grugalash", "rows", "vectors"]
+ORDER = ["refusals", "language", "laws", "machine", "results", "table", "area", "reader", "report", "demands", "text", "grugalash", "rows", "vectors"]
 
 HEAD = re.compile(r"^( *)(?:pub +)?(abbrev|unfoldable|data|record|module)\b(?: +pub)? +([^\s{]\S*)")
 THEOREM = re.compile(r"^( *)pub +([^\s:]+) *:")
@@ -97,7 +97,7 @@ def indent(line):
 
 
 def module_of(path):
-    """Rattle.machine.specs.States -> (machine, States); Rattle.machine.specs.States likewise; enums: (language, declared.Refusal)."""
+    """Rattle.machine.specs.States -> (machine, States); Rattle.machine.specs.States likewise; enums: (refusals, declared.Refusal)."""
     parts = path.split(".")
     crate = parts[0].split("·")[1]
     rest = [p for p in parts[1:] if p != "specs"]

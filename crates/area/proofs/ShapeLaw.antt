@@ -17,9 +17,9 @@ use lib.Seq.{drop-drop, getD-drop}
 use borrow.Author.Tests.{leb-true, eqb-true, ne-eqb, lt-leb, le-leb, not-true, not-false}
 use Rattle.laws.specs.Tests.{all, upTo, each-all, all-each, upTo-below, below-upTo, false-unless, not-both}
 use Rattle.laws.specs.Picks.{pick, allOf, each-of, pick-with, both-pick}
-use Rattle.language.specs.declared.Refusal.{Refusal}
-use Rattle.language.specs.declared.Answer.{Answer}
-use Rattle.language.specs.declared.Answer.the-variants.{Done, Refused}
+use Rattle.refusals.specs.declared.Refusal.{Refusal}
+use Rattle.refusals.specs.declared.Answer.{Answer}
+use Rattle.refusals.specs.declared.Answer.the-variants.{Done, Refused}
 use Rattle.language.specs.Words.{countT, countN}
 use Rattle.language.specs.Checks.{checkSymbols}
 use Rattle.language.specs.CheckHead.{head-absent}

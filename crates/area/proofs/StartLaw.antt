@@ -12,8 +12,8 @@ use native.Mathlib.Omega.{arith}
 use lib.ListN.{length, getD, set, drop, drop-of-length-le}
 use lib.Seq.{sets, sets-eq, drop-cons}
 use Rattle.laws.specs.Parts.{sets-append}
-use Rattle.language.specs.declared.Refusal.{Refusal}
-use Rattle.language.specs.declared.Answer.the-variants.{Done, Refused}
+use Rattle.refusals.specs.declared.Refusal.{Refusal}
+use Rattle.refusals.specs.declared.Answer.the-variants.{Done, Refused}
 use Rattle.area.specs.Layout.{need, zeros}
 use Rattle.area.specs.Start.{startAnswer, startedArea, startArea}
 use Rattle.area.specs.StartWords.{startFront, startRow, startRows, startSlot, unreadSlots, startSlots, startWords, length-start-rows, length-start-slots, start-words, start-words-length}

@@ -22,7 +22,7 @@ use Rattle.laws.specs.Passed.{must-pass, must-fail, both, unless}
 use Rattle.language.specs.Symbols.{Symbol, terminal, nonterminal, wordOf}
 use Rattle.language.specs.Trees.{Span}
 use Rattle.machine.specs.Entries.{Unread, terminalAt, Entry, terminalOn, nonterminalOn, symbol, unmarked}
-use Rattle.machine.specs.RunsEnd.{MarksFine, fine-empty, fine-nonterminal, fine-unmarked, fine-marked}
+use Rattle.results.specs.RunsEnd.{MarksFine, fine-empty, fine-nonterminal, fine-unmarked, fine-marked}
 use Rattle.area.specs.declared.shape.Scan.{Scan}
 use Rattle.area.specs.Layout.{more, size, block, markWord, spanAt, unreadOf}
 use Rattle.area.specs.Kept.{Lies, first-end, last-end, within, SymbolInRange}

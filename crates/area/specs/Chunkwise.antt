@@ -16,7 +16,7 @@ use Rattle.machine.specs.Entries.{Unread, Entry, stackSymbols}
 use Rattle.machine.specs.Chunks.{Chunk}
 use Rattle.machine.specs.States.{State, live}
 use Rattle.machine.specs.Starts.{symbolsAlong}
-use Rattle.machine.specs.Bounded.{AllFine, all-fine-nil, all-fine-cons}
+use Rattle.results.specs.Bounded.{AllFine, all-fine-nil, all-fine-cons}
 use Rattle.area.specs.Layout.{stackSize, unreadSize, chunkSize, total}
 use Rattle.area.specs.Kept.{Tiles, tiled, AllInRange, none-left, LastHolds, holds, later-holds, Ending, whole, accepted, AllStuckFine, no-chunk, and-chunk, Kept}
 use Rattle.area.specs.Lengths.{tiles-end, stack-size, symbols-size, unread-append}

@@ -1,7 +1,7 @@
 -- The rules of docs/AREA.md as rules of a state: which rows being read can stand in a work area. Every state that a start reaches
 -- keeps them, and so does what any move or join makes of a state that does.
 -- Document 01: "The shape rules speak only of ranges, lengths and counts".
--- Rests on Layout, and on machine's Starts and Bounded.
+-- Rests on Layout, and on machine's Starts and results' Bounded.
 --
 -- Main definitions: Lies, Tiles, Ending, Kept.
 use mathlib.Core.Path.{_≡_}
@@ -18,7 +18,7 @@ use Rattle.machine.specs.Moves.{noRule}
 use Rattle.machine.specs.Chunks.{Status, running, stuck, Chunk}
 use Rattle.machine.specs.States.{State, live}
 use Rattle.machine.specs.Starts.{symbolsAlong}
-use Rattle.machine.specs.Bounded.{terminalsIn, potential, AllFine, mostMoves}
+use Rattle.results.specs.Bounded.{terminalsIn, potential, AllFine, mostMoves}
 use Rattle.area.specs.Layout.{size, marks, spanAt}
 
 -- (f) a symbol at slot s of a row of n tokens: its value is the span of its slots; # stands in slots 0 and n+1 and nowhere else

@@ -2,7 +2,7 @@
 -- what a run leaves.
 -- Document 01: 15 is never given "for a state reached from such a load and start with those same words and matrix". It asks of the
 -- words that they pass 1 to 3, and of the matrix what it says of #; nothing here asks for an accepted load.
--- Rests on Kept, RowAfterTurn and RulesAfterTurn, and on machine's Schedules, AllowedExactly, Bounded and Counts.
+-- Rests on Kept, RowAfterTurn and RulesAfterTurn, and on machine's Schedules, AllowedExactly and Counts and results' Bounded.
 --
 -- Main statements: kept-turned, kept-made, kept-run, kept-scheduled.
 use mathlib.Core.Path.{_≡_, ap}
@@ -17,7 +17,7 @@ use Rattle.machine.specs.Moves.{Table}
 use Rattle.machine.specs.Laws.{EndMark}
 use Rattle.machine.specs.States.{State, ran, live, run}
 use Rattle.machine.specs.TableOf.{tableOf}
-use Rattle.machine.specs.Bounded.{Falls, falls-kept, moves-bounded}
+use Rattle.results.specs.Bounded.{Falls, falls-kept, moves-bounded}
 use Rattle.machine.specs.Schedules.{Turned, by-step, Schedule, no-turn, one-turn, listed}
 use Rattle.machine.specs.AllowedExactly.{step-exactly}
 use Rattle.machine.specs.Counts.{NamedMoves, no-move, move-and, run-exactly}

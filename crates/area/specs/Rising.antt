@@ -12,7 +12,7 @@ use native.Mathlib.Omega.{arith}
 use lib.ListN.{length, length-reverse}
 use Rattle.language.specs.Trees.{Span}
 use Rattle.machine.specs.Entries.{Unread, terminalAt, nonterminalAt, Entry, terminalOn, nonterminalOn, unmarked, stackSymbols}
-use Rattle.machine.specs.RunsEnd.{terminalsOn, terminalsUnread, MarksFine, fine-empty, fine-nonterminal, fine-unmarked, fine-marked}
+use Rattle.results.specs.RunsEnd.{terminalsOn, terminalsUnread, MarksFine, fine-empty, fine-nonterminal, fine-unmarked, fine-marked}
 use Rattle.area.specs.Layout.{size, block, markWord, stackSize, stackWords, marks, unreadSize, unreadWords}
 use Rattle.area.specs.Kept.{Tiles, tiled, tile, AllInRange, none-left, in-range}
 use Rattle.area.specs.Sides.{risingWords, Placed, no-more, then-stands}

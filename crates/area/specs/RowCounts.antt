@@ -1,6 +1,6 @@
 -- How many symbols and how many terminals a row's chunks hold, counted on the row's symbols in order.
 -- Document 01, "Moves of a chunk"; docs/AREA.md, rules (e), (i) and (j).
--- Rests on Kept, and on machine's RunsEnd and Bounded.
+-- Rests on Kept, and on results' RunsEnd and Bounded.
 --
 -- Main statements: length-of-row, holds-some, no-symbol, terminals-of-row.
 use mathlib.Core.Path.{_≡_, refl}
@@ -12,8 +12,8 @@ use Rattle.language.specs.Trees.{Span}
 use Rattle.machine.specs.Entries.{Unread, stackSymbols}
 use Rattle.machine.specs.Chunks.{Chunk}
 use Rattle.machine.specs.Starts.{symbolsAlong}
-use Rattle.machine.specs.RunsEnd.{terminalsUnread}
-use Rattle.machine.specs.Bounded.{terminalsIn, terminals-append, terminals-of-stack, length-of-stack}
+use Rattle.results.specs.RunsEnd.{terminalsUnread}
+use Rattle.results.specs.Bounded.{terminalsIn, terminals-append, terminals-of-stack, length-of-stack}
 use Rattle.area.specs.Kept.{LastHolds, holds, later-holds}
 
 -- ---- symbols

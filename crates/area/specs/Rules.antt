@@ -20,7 +20,7 @@ use Rattle.language.specs.Trees.{Span, Reduction}
 use Rattle.machine.specs.Entries.{Unread, Entry}
 use Rattle.machine.specs.Chunks.{Chunk}
 use Rattle.machine.specs.States.{live}
-use Rattle.machine.specs.Bounded.{unreadIn, symbolsIn, terminalsIn, runningIn, potentialIn}
+use Rattle.results.specs.Bounded.{unreadIn, symbolsIn, terminalsIn, runningIn, potentialIn}
 use Rattle.area.specs.declared.shape.Walk.{Walk}
 use Rattle.area.specs.Layout.{stackSize, unreadSize, statusWord, total, rows, slots, zeros, encode}
 use Rattle.area.specs.Kept.{LastHolds, Ending, whole, accepted, FirstLive, first-live}

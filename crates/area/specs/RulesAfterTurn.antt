@@ -1,7 +1,7 @@
 -- Each rule of a row by itself, after a step or a join: as many chunk numbers; chunk 0 live, its stack not empty; symbols side by side
 -- up to where the last live chunk ends; symbols in range; stuck chunks; and a terminal gone for each reduction.
 -- Document 01, "Moves of a chunk"; docs/AREA.md, rules (d), (e), (f), (h) and (i).
--- Rests on Kept, Tiling, RowCounts and RowAfterTurn, and on machine's Schedules, AllowedExactly and RunsEnd.
+-- Rests on Kept, Tiling, RowCounts and RowAfterTurn, and on machine's Schedules and AllowedExactly and results' RunsEnd.
 --
 -- Main statements: same-number, first-of, holds-kept, whole-before, stands, ranged-kept, stuck-kept, terminals-fall.
 use mathlib.Core.Path.{_≡_, refl, ap}
@@ -17,8 +17,8 @@ use Rattle.machine.specs.Laws.{EndMark}
 use Rattle.machine.specs.Chunks.{Chunk, joined}
 use Rattle.machine.specs.States.{State, live}
 use Rattle.machine.specs.Starts.{symbolsAlong}
-use Rattle.machine.specs.RunsEnd.{terminals-cons, on-reading, on-replacing}
-use Rattle.machine.specs.Bounded.{terminalsIn, terminals-append, terminals-of-stack, length-of-stack, reading-fills, AllFine, all-fine-cons}
+use Rattle.results.specs.RunsEnd.{terminals-cons, on-reading, on-replacing}
+use Rattle.results.specs.Bounded.{terminalsIn, terminals-append, terminals-of-stack, length-of-stack, reading-fills, AllFine, all-fine-cons}
 use Rattle.machine.specs.Allowed.{HandleAbove, from-nonterminal, from-mark, up-to-unmarked, up-to-nonterminal, Steps, JoinsAt}
 use Rattle.machine.specs.AllowedExactly.{HandleView, a-handle, handle-view, step-exactly, join-exactly}
 use Rattle.machine.specs.Schedules.{IsLive, firstStack, Turned, by-step, by-join, Made, has-read, has-replaced, got-stuck, Changed, moves-one, joins-two, further}

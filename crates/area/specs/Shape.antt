@@ -11,11 +11,11 @@ use lib.Dec.{leb, ltb, eqb}
 use lib.ListN.{length, getD, drop}
 use Rattle.laws.specs.Tests.{all, upTo}
 use Rattle.laws.specs.Picks.{pick, allOf}
-use Rattle.language.specs.declared.Answer.{Answer}
-use Rattle.language.specs.declared.Answer.the-variants.{Done, Refused}
+use Rattle.refusals.specs.declared.Answer.{Answer}
+use Rattle.refusals.specs.declared.Answer.the-variants.{Done, Refused}
 use Rattle.language.specs.Words.{countT, countN}
 use Rattle.language.specs.Checks.{checkSymbols}
-use Rattle.machine.specs.Bounded.{mostMoves}
+use Rattle.results.specs.Bounded.{mostMoves}
 use Rattle.area.specs.declared.shape.Scan.{Scan}
 use Rattle.area.specs.declared.shape.Walk.{Walk}
 use Rattle.area.specs.Layout.{need, slotsAt, madeAtWord, movesIn}

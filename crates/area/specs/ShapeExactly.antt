@@ -23,7 +23,7 @@ use Rattle.language.specs.Trees.{Span, Reduction}
 use Rattle.language.specs.Reports.{reportWords}
 use Rattle.machine.specs.Chunks.{Chunk}
 use Rattle.machine.specs.States.{State, live}
-use Rattle.machine.specs.Bounded.{mostMoves}
+use Rattle.results.specs.Bounded.{mostMoves}
 use Rattle.area.specs.declared.shape.Walk.{Walk}
 use Rattle.area.specs.Layout.{need, front, total, rows, slots, zeros, encode, slotsAt, madeAtWord}
 use Rattle.area.specs.Kept.{FirstLive, Kept}

@@ -16,7 +16,7 @@ use Rattle.laws.specs.Picks.{of-each}
 use Rattle.language.specs.Trees.{Span}
 use Rattle.machine.specs.Chunks.{Chunk}
 use Rattle.machine.specs.States.{State, live}
-use Rattle.machine.specs.Bounded.{terminalsIn, potential, mostMoves}
+use Rattle.results.specs.Bounded.{terminalsIn, potential, mostMoves}
 use Rattle.area.specs.declared.shape.Walk.{Walk}
 use Rattle.area.specs.Layout.{need, total, encode, slotsAt, madeAtWord}
 use Rattle.area.specs.Kept.{FirstLive, first-live, Kept}

@@ -17,7 +17,7 @@ use Rattle.laws.specs.Tests.{eqb-true, ne-eqb, lt-ltb, le-ltb}
 use Rattle.laws.specs.Picks.{pick}
 use Rattle.language.specs.Trees.{Span}
 use Rattle.machine.specs.Entries.{Entry, terminalOn, nonterminalOn, symbol, unmarked}
-use Rattle.machine.specs.RunsEnd.{oneUnlessEnd, terminalsOn}
+use Rattle.results.specs.RunsEnd.{oneUnlessEnd, terminalsOn}
 use Rattle.area.specs.declared.shape.Scan.{Scan}
 use Rattle.area.specs.Layout.{more, size, block, markWord, stackSize, marks}
 use Rattle.area.specs.Kept.{SymbolInRange}

@@ -16,11 +16,11 @@ use lib.Dec.{ltb, eqb}
 use lib.ListN.{length, getD, drop}
 use Rattle.laws.specs.Least.{Least, Nowhere, Finds, nowhere, least, firstBelow, first-finds}
 use Rattle.laws.specs.Tests.{ltb-true, ltb-false, lt-ltb, eqb-true}
-use Rattle.language.specs.declared.Refusal.the-variants.{BadState, Empty, TooLong, BadToken, BadCut, NoRoom}
-use Rattle.language.specs.declared.Answer.{Answer}
-use Rattle.language.specs.declared.Answer.the-variants.{Done, Refused}
+use Rattle.refusals.specs.declared.Refusal.the-variants.{BadState, Empty, TooLong, BadToken, BadCut, NoRoom}
+use Rattle.refusals.specs.declared.Answer.{Answer}
+use Rattle.refusals.specs.declared.Answer.the-variants.{Done, Refused}
 use Rattle.language.specs.Words.{countT, Outside, outside, outside-iff}
-use Rattle.language.specs.Stages.{Stage, checked, Condition, stagesOf, Ready, ready, finding, Given, passes-all, fails, passes, given-exactly}
+use Rattle.language.specs.Stages.{Stage, checked, Condition, stagesOf, Ready, ready, finding, Given, passes-all, fails, passes, given-exactly, failing, failing-finds}
 use Rattle.machine.specs.States.{start}
 use Rattle.area.specs.Layout.{need, encode}
 use Rattle.area.specs.Shape.{grammarInShape}
@@ -34,10 +34,6 @@ pub record StartInput : Type 0 where
   pub room : ℕ
 
 -- ---- the conditions, one a number
-
--- a condition with one value: it fails there, or nowhere
-abbrev pub failing : Bool → ℕ → Option ℕ
-failing broken v = elim broken [ true ↦ some v | false ↦ none ]
 
 -- 15: "grammar, matrix or work area breaks the shape rules", of the grammar and the matrix
 pub data GrammarBroken (input : StartInput) (v : ℕ) : Type 0 where
@@ -123,11 +119,6 @@ unfoldable pub startArea : List ℕ → List ℕ → List ℕ → List ℕ → L
 startArea words matrix tokens cuts area = startedArea (startAnswer words matrix tokens cuts (length area)) tokens cuts area
 
 -- ---- given exactly
-
--- a search with one value finds it
-failing-finds : (P : ℕ → Type 0) (broken : Bool) (v : ℕ) → (broken ≡ true → P v) → ((u : ℕ) → P u → (broken ≡ true) × (u ≡ v)) → Finds P (failing broken v)
-failing-finds P true v to of = least (record { holds = to refl; least = λ u h p. let e = of u p .1 in omega arith })
-failing-finds P false v to of = nowhere (λ u p. false≢true (of u p .0))
 
 module _ (input : StartInput) where
   shape-finds : Finds (GrammarBroken input) (shapeStage .failsAt input)

@@ -19,22 +19,18 @@ use lib.ListN.{length, getD, List·getD-eq-default}
 use Rattle.laws.specs.Least.{firstBelow, first-at, first-nowhere}
 pub use Rattle.laws.specs.Least.{Clear, clear-more}
 use Rattle.laws.specs.Tests.{lt-ltb, le-ltb, eq-eqb, ne-eqb}
-use Rattle.language.specs.declared.Refusal.{Refusal}
-use Rattle.language.specs.declared.Refusal.the-variants.{BadState, Empty, TooLong, BadToken, BadCut, NoRoom}
-use Rattle.language.specs.declared.Answer.{Answer}
-use Rattle.language.specs.declared.Answer.the-variants.{Done, Refused}
+use Rattle.refusals.specs.declared.Refusal.{Refusal}
+use Rattle.refusals.specs.declared.Refusal.the-variants.{BadState, Empty, TooLong, BadToken, BadCut, NoRoom}
+use Rattle.refusals.specs.declared.Answer.{Answer}
+use Rattle.refusals.specs.declared.Answer.the-variants.{Done, Refused}
 use Rattle.language.specs.Words.{countT}
-use Rattle.language.specs.Stages.{checked, thenChecked, checked-append}
+use Rattle.language.specs.Stages.{refusedBy, checked, thenChecked, checked-append, failing}
 use Rattle.language.specs.Checks.{checkSymbols}
 use Rattle.area.specs.Layout.{need}
 use Rattle.area.specs.Shape.{grammarInShape}
-use Rattle.area.specs.Start.{StartInput, failing, emptyStage, lengthStage, tokenStage, cutStage, roomStage}
+use Rattle.area.specs.Start.{StartInput, emptyStage, lengthStage, tokenStage, cutStage, roomStage}
 use Rattle.area.specs.Start.{startAnswer, badTokenAt, cutFalls, badCutAt, no-room, Startable, starts-exactly}
 use Rattle.area.specs.StartKept.{GoodCuts, few-tokens, few-cuts, cut-within, cuts-good}
-
--- what one check finds is refused; where it finds nothing the answer is that of the later ones
-abbrev pub refusedBy : (ℕ → Refusal) → Option ℕ → Answer → Answer
-refusedBy refusal found later = elim found [ none ↦ later | some v ↦ Refused (refusal v) ]
 
 -- ---- 7, 8, 9
 

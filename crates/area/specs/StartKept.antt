@@ -1,7 +1,7 @@
 -- A start keeps the rules: of 1 to 16,384 tokens in 1..T, cut at no more than 63 places that never fall and are at most n.
 -- Document 01, "Moves of a chunk": "Cuts are C-1 nondecreasing places from 0 to n; equal cuts give empty chunks. .. Chunk 0 starts with #
 -- on its stack, others with nothing. The last chunk reads # after its tokens"; the table's 7, 8, 9 and 10.
--- Rests on Kept, RowCounts and Start, and on machine's Starts and Bounded.
+-- Rests on Kept, RowCounts and Start, and on machine's Starts and results' Bounded.
 --
 -- Main definitions: GoodTokens, GoodCuts. Main statements: start-kept; few-tokens, no-end, few-cuts, cut-within, cuts-good, startable-kept.
 use mathlib.Core.Path.{_≡_, refl, ap}
@@ -18,8 +18,8 @@ use Rattle.language.specs.Words.{countT, too-low, too-high}
 use Rattle.machine.specs.Entries.{Unread, terminalAt}
 use Rattle.machine.specs.States.{live, unreadFrom, pieces, startChunk, start}
 use Rattle.machine.specs.Starts.{NoEnd, bottom, laterChunk, symbolsAlong, later-symbols, row-length, begun}
-use Rattle.machine.specs.RunsEnd.{oneUnlessEnd, terminalsUnread}
-use Rattle.machine.specs.Bounded.{falls-start, potential-start}
+use Rattle.results.specs.RunsEnd.{oneUnlessEnd, terminalsUnread}
+use Rattle.results.specs.Bounded.{falls-start, potential-start}
 use Rattle.area.specs.Layout.{size}
 use Rattle.area.specs.Kept.{Lies, first-end, last-end, within, Tiles, tiled, tile, AllInRange, none-left, in-range, LastHolds, holds, later-holds}
 use Rattle.area.specs.Kept.{whole, not-stuck, AllStuckFine, no-chunk, and-chunk, FirstLive, first-live, Kept}

@@ -22,8 +22,8 @@ use Rattle.machine.specs.Entries.{Unread, Entry}
 use Rattle.machine.specs.Moves.{noRelation, noRule, notAxiom, sideBySide}
 use Rattle.machine.specs.Chunks.{Status, running, stuck, Chunk}
 use Rattle.machine.specs.States.{live}
-use Rattle.machine.specs.RunsEnd.{terminalsOn, terminalsUnread}
-use Rattle.machine.specs.Bounded.{oneIfRunning, unreadIn, symbolsIn, terminalsIn, runningIn}
+use Rattle.results.specs.RunsEnd.{terminalsOn, terminalsUnread}
+use Rattle.results.specs.Bounded.{oneIfRunning, unreadIn, symbolsIn, terminalsIn, runningIn}
 use Rattle.area.specs.declared.shape.Scan.{Scan}
 use Rattle.area.specs.declared.shape.Walk.{Walk}
 use Rattle.area.specs.Layout.{stackSize, stackWords, marks, unreadSize, unreadWords, chunkSize, chunkWords, statusWord, row, total, rows, slots}

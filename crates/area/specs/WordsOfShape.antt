@@ -11,8 +11,8 @@ use mathlib.Core.List.{List}
 use mathlib.Core.Option.{some}
 use Prim.Native.Nat.{ℕ, _≤_, _<_}
 use Rattle.laws.specs.Least.{Nowhere}
-use Rattle.language.specs.declared.Answer.{Answer}
-use Rattle.language.specs.declared.Answer.the-variants.{Done, Refused}
+use Rattle.refusals.specs.declared.Answer.{Answer}
+use Rattle.refusals.specs.declared.Answer.the-variants.{Done, Refused}
 use Rattle.language.specs.Symbols.{Symbol}
 use Rattle.language.specs.Grammar.{leftSide}
 use Rattle.language.specs.Words.{countT, countN, grammarOf}

@@ -8,8 +8,8 @@ ghost use Rattle.area.specs.Start.{startAnswer};
 ghost use Rattle.area.specs.StartChecks.{tokensAnswer, cutsAnswer, Writable};
 ghost use Rattle.area.specs.StartWords.{startRow, startRows, startSlot, startSlots, startWords};
 use crate::shape;
-use language::Answer;
-use language::Refusal;
+use refusals::Answer;
+use refusals::Refusal;
 
 // 7, 8 and 9: some tokens, but not too many, each in 1..t.
 fn check_tokens(tokens: &[u16], t: u16) -> Answer

@@ -2,7 +2,7 @@
 mod begin;
 mod shape;
 
-use language::Answer;
+use refusals::Answer;
 ghost use mathlib.Core.Path.{_≡_};
 ghost use lib.ListN.{length};
 ghost use Rattle.area.specs.Shape.{inShape};

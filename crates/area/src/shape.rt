@@ -1,7 +1,7 @@
 // The shape rules of docs/AREA.md, checked in one pass over the lent words and bytes.
 // Each function is a definition of specs/Shape.antt, or some of them joined, of which its contract is the equation.
 // Tests are joined by `&` and `|`, so that a function of many tests has one way through it.
-use language::Answer;
+use refusals::Answer;
 ghost use mathlib.Core.Bool.{false};
 ghost use mathlib.Core.Path.{_≡_};
 ghost use Prim.Native.Nat.{_+_, _*_, _-_, _≤_, _<_, _^_, pred};

@@ -14,13 +14,13 @@ use native.Mathlib.Omega.{arith}
 use lib.Dec.{ltb}
 use lib.ListN.{length, getD, drop}
 use Rattle.laws.specs.Parts.{drop-past}
-use Rattle.language.specs.declared.Refusal.{Refusal}
-use Rattle.language.specs.declared.Refusal.the-variants.{NoRoom}
-use Rattle.language.specs.declared.Answer.{Answer}
-use Rattle.language.specs.declared.Answer.the-variants.{Done, Refused}
-use Rattle.language.specs.declared.RunAnswer.{RunAnswer}
-use Rattle.language.specs.declared.ReportAnswer.{ReportAnswer}
-use Rattle.language.specs.Refusals.{numberOf, answerNumber, setNumber, runNumber, reportNumber}
+use Rattle.refusals.specs.declared.Refusal.{Refusal}
+use Rattle.refusals.specs.declared.Refusal.the-variants.{NoRoom}
+use Rattle.refusals.specs.declared.Answer.{Answer}
+use Rattle.refusals.specs.declared.Answer.the-variants.{Done, Refused}
+use Rattle.refusals.specs.declared.RunAnswer.{RunAnswer}
+use Rattle.refusals.specs.declared.ReportAnswer.{ReportAnswer}
+use Rattle.refusals.specs.Refusals.{numberOf, answerNumber, setNumber, runNumber, reportNumber}
 use Rattle.language.specs.Words.{countT, countN, grammarOf}
 use Rattle.language.specs.Stages.{Stage, checked, stagesOf, Given, fails, passes, none-left}
 use Rattle.language.specs.Checks.{symbolConditions, wordConditions, checkSymbols, checkWords}

@@ -4,7 +4,7 @@
 -- its answer and the final content of everything lent to it, for all inputs, refusals too".
 -- A function's `clauses` are what its proof is held to; `args` are its parameters in their order, `end` what its slices refer to when it ends, `now` the
 -- words of a slice. 𝓤, H, A, mem and routines are the program logic's own.
--- Rests on PublicCalls and on the contracts in crates language, table, area, reader and report, and on nothing else.
+-- Rests on PublicCalls and on the contracts in crates refusals, table, area, reader and report, and on nothing else.
 --
 -- Main definition: AsPromised. Main statements: contracts; promise-kept, one-answer-only (what keeps these lines is one answer and one content of each run).
 use mathlib.Core.Path.{_≡_, refl, sym, ap, _∙_}
@@ -18,8 +18,8 @@ use ghost.Atoms.{Atoms}
 use contract.Monad.{Fun}
 use contract.Notation
 use denote.Ref.{now}
-use Rattle.language.proofs.number as number
-use Rattle.language.proofs.value as value
+use Rattle.refusals.proofs.number as number
+use Rattle.refusals.proofs.value as value
 use Rattle.table.proofs.check_symbols as check-symbols
 use Rattle.table.proofs.check_words as check-words
 use Rattle.table.proofs.load as load

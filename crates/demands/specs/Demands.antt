@@ -11,12 +11,12 @@ use mathlib.Core.Logic.{_↔_}
 use mathlib.Core.List.{List, [], _∷_, _++_, List·Memᴰ}
 use Prim.Native.Nat.{ℕ, _+_, _*_, _-_, _≤_, _<_}
 use lib.ListN.{length, getD, drop}
-use Rattle.language.specs.declared.Refusal.{Refusal}
-use Rattle.language.specs.declared.Refusal.the-variants.{BadState}
-use Rattle.language.specs.declared.Answer.the-variants.{Done}
-use Rattle.language.specs.declared.Answer.the-variants as answer
-use Rattle.language.specs.declared.ReportAnswer.the-variants.{Report, Refused}
-use Rattle.language.specs.Refusals.{reportNumber, reportValue}
+use Rattle.refusals.specs.declared.Refusal.{Refusal}
+use Rattle.refusals.specs.declared.Refusal.the-variants.{BadState}
+use Rattle.refusals.specs.declared.Answer.the-variants.{Done}
+use Rattle.refusals.specs.declared.Answer.the-variants as answer
+use Rattle.refusals.specs.declared.ReportAnswer.the-variants.{Report, Refused}
+use Rattle.refusals.specs.Refusals.{reportNumber, reportValue}
 use Rattle.language.specs.Words.{grammarOf}
 use Rattle.language.specs.Loads.{loadAnswer}
 use Rattle.language.specs.Trees.{Span}
@@ -24,9 +24,9 @@ use Rattle.machine.specs.States.{State, start}
 use Rattle.machine.specs.TableOf.{tableOf}
 use Rattle.machine.specs.Allowed.{Steps, JoinsAt}
 use Rattle.machine.specs.Counts.{RunNamed}
-use Rattle.machine.specs.ReadThrough.{ReadThrough}
-use Rattle.machine.specs.Confluent.{withoutMoves}
-use Rattle.machine.specs.UncutRow.{InLanguage, AxiomTree}
+use Rattle.results.specs.ReadThrough.{ReadThrough}
+use Rattle.results.specs.Confluent.{withoutMoves}
+use Rattle.results.specs.UncutRow.{InLanguage, AxiomTree}
 use Rattle.area.specs.Layout.{need, encode, decode, movesIn, beyondIn}
 use Rattle.area.specs.Shape.{inShape}
 use Rattle.area.specs.Start.{startAnswer}

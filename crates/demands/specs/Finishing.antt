@@ -3,7 +3,7 @@
 -- Document 01: 16 UNFINISHED, "several chunks live, or the one not at rest"; "A schedule is just the order of calls".
 -- A schedule is an endless list of calls here, given by number; refused calls and runs with budget 0 may stand between. It goes on while it
 -- can: where the report answers 16, one of the calls from there on makes a move. By (b) there is always such a call to choose.
--- Rests on Reached and SameReport, and on machine's Progress and AllowedExactly.
+-- Rests on Reached and SameReport, and on machine's AllowedExactly and results' Progress.
 --
 -- Main definitions: SomeMove, firstCalls, GoesOn, AllMove.
 -- Main statements: some-move, goes-on-finishes, lists-end, can-finish, finished-stays.
@@ -16,9 +16,9 @@ use native.Mathlib.Omega.{arith}
 use lib.Dec.{eqb}
 use lib.ListN.{length, length-append}
 use Rattle.laws.specs.Tests.{eqb-true, eqb-false}
-use Rattle.language.specs.declared.Refusal.the-variants.{Unfinished}
-use Rattle.language.specs.declared.Answer.the-variants.{Done}
-use Rattle.language.specs.Refusals.{reportNumber}
+use Rattle.refusals.specs.declared.Refusal.the-variants.{Unfinished}
+use Rattle.refusals.specs.declared.Answer.the-variants.{Done}
+use Rattle.refusals.specs.Refusals.{reportNumber}
 use Rattle.language.specs.Trees.{Span}
 use Rattle.machine.specs.Chunks.{Chunk}
 use Rattle.machine.specs.States.{State, step, join, live, Outcome, refusedRow}
@@ -26,8 +26,8 @@ use Rattle.machine.specs.Answers.{outcomeAnswer}
 use Rattle.machine.specs.Schedules.{Turned, by-step, by-join, Schedule, no-turn, one-turn}
 use Rattle.machine.specs.Allowed.{Live}
 use Rattle.machine.specs.AllowedExactly.{step-exactly, join-exactly}
-use Rattle.machine.specs.Bounded.{mostMoves}
-use Rattle.machine.specs.Progress.{progress, answered-no-turn}
+use Rattle.results.specs.Bounded.{mostMoves}
+use Rattle.results.specs.Progress.{progress, answered-no-turn}
 use Rattle.area.specs.Kept.{FirstLive, first-live}
 use Rattle.reader.specs.Calls.{calledAnswer, stepCall, stepAnswer, joinCall, joinAnswer}
 use Rattle.report.specs.ReportCall.{reportAnswer}

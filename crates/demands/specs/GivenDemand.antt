@@ -13,16 +13,16 @@ use Prim.Native.Nat.{ℕ, _*_, _≤_, _<_}
 use lib.Dec.{ltb}
 use lib.ListN.{length}
 use Rattle.laws.specs.Tests.{ltb-true, ltb-false, lt-ltb, le-ltb}
-use Rattle.language.specs.declared.Refusal.{Refusal}
-use Rattle.language.specs.declared.Refusal.the-variants.{NoRoom, NoChunk, AtRest, NoJoin, BadState, Unfinished}
-use Rattle.language.specs.declared.Answer.{Answer}
-use Rattle.language.specs.declared.Answer.the-variants.{Done, Refused}
-use Rattle.language.specs.declared.SetAnswer.{SetAnswer}
-use Rattle.language.specs.declared.SetAnswer.the-variants as set
-use Rattle.language.specs.declared.RunAnswer.{RunAnswer}
-use Rattle.language.specs.declared.RunAnswer.the-variants as runs
-use Rattle.language.specs.declared.ReportAnswer.{ReportAnswer}
-use Rattle.language.specs.declared.ReportAnswer.the-variants as reports
+use Rattle.refusals.specs.declared.Refusal.{Refusal}
+use Rattle.refusals.specs.declared.Refusal.the-variants.{NoRoom, NoChunk, AtRest, NoJoin, BadState, Unfinished}
+use Rattle.refusals.specs.declared.Answer.{Answer}
+use Rattle.refusals.specs.declared.Answer.the-variants.{Done, Refused}
+use Rattle.refusals.specs.declared.SetAnswer.{SetAnswer}
+use Rattle.refusals.specs.declared.SetAnswer.the-variants as set
+use Rattle.refusals.specs.declared.RunAnswer.{RunAnswer}
+use Rattle.refusals.specs.declared.RunAnswer.the-variants as runs
+use Rattle.refusals.specs.declared.ReportAnswer.{ReportAnswer}
+use Rattle.refusals.specs.declared.ReportAnswer.the-variants as reports
 use Rattle.language.specs.Grammar.{Grammar, mirrored}
 use Rattle.language.specs.Words.{grammarOf}
 use Rattle.language.specs.Stages.{ready, finding, Given, given-exactly}

@@ -15,8 +15,8 @@ use mathlib.Core.List.{List, _++_}
 use Prim.Native.Nat.{ℕ, _<_}
 use native.Mathlib.Omega.{arith}
 use lib.ListN.{getD, drop}
-use Rattle.language.specs.declared.Answer.the-variants.{Done, Refused}
-use Rattle.language.specs.declared.RunAnswer.the-variants as runs
+use Rattle.refusals.specs.declared.Answer.the-variants.{Done, Refused}
+use Rattle.refusals.specs.declared.RunAnswer.the-variants as runs
 use Rattle.language.specs.Trees.{Span}
 use Rattle.machine.specs.States.{State, Called, refused, became, Ran, refusedRun, ran, step, run, join}
 use Rattle.machine.specs.TableOf.{tableOf}

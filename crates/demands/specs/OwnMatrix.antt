@@ -11,7 +11,7 @@ use Prim.Native.Nat.{ℕ}
 use lib.ListN.{length, take, drop, take-append-drop}
 use lib.Seq.{take-at}
 use lib.Dec.{ltb}
-use Rattle.language.specs.declared.Answer.the-variants.{Done}
+use Rattle.refusals.specs.declared.Answer.the-variants.{Done}
 use Rattle.language.specs.Grammar.{leftSide}
 use Rattle.language.specs.Words.{countA, grammarOf}
 use Rattle.language.specs.Matching.{matching}

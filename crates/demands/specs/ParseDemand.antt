@@ -3,7 +3,7 @@
 -- Document 01: "The front-to-back parse is C = 1, also offered as one call"; "The one-call parse checks 1 to 9 by number, then 11 for the work
 -- area, then 17 to 20, then 11 for the report"; "A stuck place is that of the unread b"; "Each report also gives the moves since start".
 -- Long enough: need(n, 1) words for the area, and three words for each of n reductions, of which a row of n tokens never makes more.
--- Rests on OwnMatrix, on reader's ParseCall and ParseGiven, area's Start and Safe, and machine's UncutRow and GivenExactly.
+-- Rests on OwnMatrix, on reader's ParseCall and ParseGiven, area's Start and Safe, and machine's GivenExactly and results' UncutRow.
 --
 -- Main definitions: RightTokens, UncutReader, entriesOf, ParseReports, GotStuck.
 -- Main statements: parse-accepts-exactly, parse-reports, parse-refuses, one-tree-only; the reader: uncut-reader; uncut-finished.
@@ -17,11 +17,11 @@ use lib.Dec.{ltb}
 use lib.ListN.{length, getD, drop}
 use Rattle.laws.specs.Tests.{le-ltb}
 use Rattle.laws.specs.Sorting.{perm-length, sort-perm}
-use Rattle.language.specs.declared.Refusal.{Refusal}
-use Rattle.language.specs.declared.Refusal.the-variants.{Unfinished}
-use Rattle.language.specs.declared.Answer.the-variants.{Done}
-use Rattle.language.specs.declared.ReportAnswer.the-variants.{Report, Refused}
-use Rattle.language.specs.Refusals.{numberOf, valueOf, reportNumber}
+use Rattle.refusals.specs.declared.Refusal.{Refusal}
+use Rattle.refusals.specs.declared.Refusal.the-variants.{Unfinished}
+use Rattle.refusals.specs.declared.Answer.the-variants.{Done}
+use Rattle.refusals.specs.declared.ReportAnswer.the-variants.{Report, Refused}
+use Rattle.refusals.specs.Refusals.{numberOf, valueOf, reportNumber}
 use Rattle.language.specs.Grammar.{Grammar}
 use Rattle.language.specs.Words.{countT, too-low, too-high, grammarOf}
 use Rattle.language.specs.Matrix.{matrixOf}
@@ -31,13 +31,13 @@ use Rattle.language.specs.Reports.{standsBefore, reportWords}
 use Rattle.machine.specs.Moves.{Stuck}
 use Rattle.machine.specs.States.{State, start, Outcome, refusedRow, reported, refusalOf, outcome}
 use Rattle.machine.specs.Starts.{NoEnd}
-use Rattle.machine.specs.Bounded.{mostMoves}
-use Rattle.machine.specs.Progress.{Answered}
+use Rattle.results.specs.Bounded.{mostMoves}
+use Rattle.results.specs.Progress.{Answered}
 use Rattle.machine.specs.Answers.{outcomeAnswer, outcomeOut}
-use Rattle.machine.specs.ReadThrough.{ReadThrough, read-through-schedule, run-reads-through}
-use Rattle.machine.specs.UncutRow.{InLanguage, AxiomTree, FirstRefusal, first-refusal-number, Verdict, reads-through, verdict}
-use Rattle.machine.specs.UncutRow.{report-of-tree, refused-exactly, tree-in-language, one-axiom-tree}
-use Rattle.machine.specs.UncutRow as uncut
+use Rattle.results.specs.ReadThrough.{ReadThrough, read-through-schedule, run-reads-through}
+use Rattle.results.specs.UncutRow.{InLanguage, AxiomTree, FirstRefusal, first-refusal-number, Verdict, reads-through, verdict}
+use Rattle.results.specs.UncutRow.{report-of-tree, refused-exactly, tree-in-language, one-axiom-tree}
+use Rattle.results.specs.UncutRow as uncut
 use Rattle.machine.specs.GivenExactly.{StuckSo, value-stuck, stuck-exactly, report-exactly, outcome-refuses}
 use Rattle.area.specs.Layout.{need}
 use Rattle.area.specs.Lengths.{few-reductions}

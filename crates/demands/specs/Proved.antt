@@ -17,7 +17,7 @@ use Rattle.machine.specs.States.{State}
 use Rattle.machine.specs.TableOf.{tableOf}
 use Rattle.machine.specs.Allowed.{Steps, JoinsAt}
 use Rattle.machine.specs.Counts.{RunNamed}
-use Rattle.machine.specs.ReadThrough.{read-once}
+use Rattle.results.specs.ReadThrough.{read-once}
 use Rattle.area.specs.Layout.{decode, beyondIn}
 use Rattle.area.specs.Start.{bad-state-given}
 use Rattle.demands.specs.GivenDemand.{given-for}

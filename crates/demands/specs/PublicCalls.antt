@@ -11,13 +11,13 @@ use mathlib.Core.Bool.{Bool}
 use mathlib.Core.List.{List, [], _∷_}
 use Prim.Native.Nat.{ℕ, _+_, _*_}
 use lib.ListN.{length}
-use Rattle.language.specs.declared.Refusal.{Refusal}
-use Rattle.language.specs.declared.Answer.{Answer}
-use Rattle.language.specs.declared.SetAnswer.{SetAnswer}
-use Rattle.language.specs.declared.RunAnswer.{RunAnswer}
-use Rattle.language.specs.declared.ReportAnswer.{ReportAnswer}
-use Rattle.language.specs.declared.ReportAnswer.the-variants.{Report, Refused}
-use Rattle.language.specs.Refusals.{numberOf, valueOf, answerNumber, setNumber, runNumber, reportNumber}
+use Rattle.refusals.specs.declared.Refusal.{Refusal}
+use Rattle.refusals.specs.declared.Answer.{Answer}
+use Rattle.refusals.specs.declared.SetAnswer.{SetAnswer}
+use Rattle.refusals.specs.declared.RunAnswer.{RunAnswer}
+use Rattle.refusals.specs.declared.ReportAnswer.{ReportAnswer}
+use Rattle.refusals.specs.declared.ReportAnswer.the-variants.{Report, Refused}
+use Rattle.refusals.specs.Refusals.{numberOf, valueOf, answerNumber, setNumber, runNumber, reportNumber}
 use Rattle.language.specs.Checks.{checkSymbols, checkWords}
 use Rattle.language.specs.Loads.{loadAnswer, loadBytes, leftSetAnswer, rightSetAnswer}
 use Rattle.area.specs.Layout.{need, needIn}

@@ -3,7 +3,7 @@
 -- Document 01: 15 is never given "for a state reached from such a load and start with those same words and matrix"; "All return number
 -- and value and leave lent memory unchanged"; "Each report also gives the moves since start, joins included".
 -- Since the list of calls is any list, what is said of the next call is said of every call of every list.
--- Rests on Standing, on area's StartKept, and on machine's Bounded and Counts.
+-- Rests on Standing, on area's StartKept, and on machine's Counts and results' Bounded.
 --
 -- Main definition: EachRight. Main statements: each-right, never-15, refused-changes-nothing, report-never-15, moves-counted, moves-few;
 -- in-shape-there, low-there.
@@ -15,15 +15,15 @@ use Prim.Native.Nat.{ℕ, suc, _+_, _*_, _%_, _≤_, _<_}
 use native.Mathlib.Omega.{arith}
 use lib.Dec.{ltb}
 use lib.ListN.{length, getD}
-use Rattle.language.specs.declared.Refusal.{Refusal}
-use Rattle.language.specs.declared.Refusal.the-variants.{Unfinished}
-use Rattle.language.specs.declared.ReportAnswer.the-variants as report
-use Rattle.language.specs.Refusals.{numberOf, reportNumber}
+use Rattle.refusals.specs.declared.Refusal.{Refusal}
+use Rattle.refusals.specs.declared.Refusal.the-variants.{Unfinished}
+use Rattle.refusals.specs.declared.ReportAnswer.the-variants as report
+use Rattle.refusals.specs.Refusals.{numberOf, reportNumber}
 use Rattle.language.specs.Trees.{Span, Reduction}
 use Rattle.machine.specs.Moves.{Stuck, noRelation, noRule, notAxiom, sideBySide}
 use Rattle.machine.specs.States.{State, Outcome, refusedRow, reported, refusalOf, outcome}
 use Rattle.machine.specs.Answers.{outcomeAnswer}
-use Rattle.machine.specs.Bounded.{mostMoves, bounded}
+use Rattle.results.specs.Bounded.{mostMoves, bounded}
 use Rattle.machine.specs.Counts.{moves-since-start}
 use Rattle.machine.specs.GivenExactly.{outcome-refuses}
 use Rattle.area.specs.Layout.{movesIn}

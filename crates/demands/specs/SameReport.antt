@@ -3,7 +3,7 @@
 -- Document 01: "The front-to-back parse is C = 1, also offered as one call"; "a report writes just these reductions, put in order, and
 -- gives this count"; "this is the front-to-back order".
 -- The report run is any: where it is too short, both answer 11 with the same value. The parse's area needs need(n, 1) words.
--- Rests on Reached and ParseDemand, on area's StartKept, and on machine's Confluent.
+-- Rests on Reached and ParseDemand, on area's StartKept, and on results' Confluent.
 --
 -- Main statements: same-but-moves, same-report; report-counts.
 use mathlib.Core.Path.{_≡_, refl, sym, ap, _∙_}
@@ -14,16 +14,16 @@ use native.Mathlib.Omega.{arith}
 use lib.Dec.{ltb}
 use lib.ListN.{length, getD}
 use Rattle.laws.specs.Tests.{le-unless}
-use Rattle.language.specs.declared.Refusal.the-variants.{NoRoom}
-use Rattle.language.specs.declared.ReportAnswer.the-variants.{Report, Refused}
-use Rattle.language.specs.Refusals.{reportNumber, reportValue}
+use Rattle.refusals.specs.declared.Refusal.the-variants.{NoRoom}
+use Rattle.refusals.specs.declared.ReportAnswer.the-variants.{Report, Refused}
+use Rattle.refusals.specs.Refusals.{reportNumber, reportValue}
 use Rattle.language.specs.Words.{countT, too-low, too-high}
 use Rattle.language.specs.Trees.{Span, Reduction}
 use Rattle.machine.specs.States.{Outcome, refusedRow, reported}
 use Rattle.machine.specs.Answers.{outcomeAnswer, outcomeOut}
-use Rattle.machine.specs.Progress.{Answered}
-use Rattle.machine.specs.Confluent.{withoutMoves, uncut-outcome}
-use Rattle.machine.specs.ReadThrough.{read-through-schedule}
+use Rattle.results.specs.Progress.{Answered}
+use Rattle.results.specs.Confluent.{withoutMoves, uncut-outcome}
+use Rattle.results.specs.ReadThrough.{read-through-schedule}
 use Rattle.machine.specs.Counts.{moves-since-start}
 use Rattle.machine.specs.GivenExactly.{report-exactly}
 use Rattle.area.specs.Layout.{need}

@@ -11,11 +11,11 @@ use mathlib.Core.List.{List, _++_}
 use Prim.Native.Nat.{ℕ, suc, _+_, _≤_}
 use native.Mathlib.Omega.{arith}
 use lib.ListN.{length, drop}
-use Rattle.language.specs.declared.Refusal.{Refusal}
-use Rattle.language.specs.declared.Refusal.the-variants.{NoChunk, AtRest, NoJoin}
-use Rattle.language.specs.declared.Answer.the-variants.{Done, Refused}
-use Rattle.language.specs.declared.RunAnswer.the-variants as runs
-use Rattle.language.specs.Refusals.{numberOf}
+use Rattle.refusals.specs.declared.Refusal.{Refusal}
+use Rattle.refusals.specs.declared.Refusal.the-variants.{NoChunk, AtRest, NoJoin}
+use Rattle.refusals.specs.declared.Answer.the-variants.{Done, Refused}
+use Rattle.refusals.specs.declared.RunAnswer.the-variants as runs
+use Rattle.refusals.specs.Refusals.{numberOf}
 use Rattle.language.specs.Words.{grammarOf}
 use Rattle.language.specs.Matrix.{matrixOf}
 use Rattle.language.specs.Loads.{loadAnswer}

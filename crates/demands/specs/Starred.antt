@@ -11,13 +11,13 @@ use mathlib.Core.List.{List, [], _∷_, _++_}
 use mathlib.Core.Option.{Option, none, some}
 use Prim.Native.Nat.{ℕ, _*_}
 use lib.ListN.{length, take, drop, length-replicate}
-use Rattle.language.specs.declared.Answer.{Answer}
-use Rattle.language.specs.declared.Answer.the-variants as answer
-use Rattle.language.specs.declared.SetAnswer.{SetAnswer}
-use Rattle.language.specs.declared.SetAnswer.the-variants as set
-use Rattle.language.specs.declared.ReportAnswer.{ReportAnswer}
-use Rattle.language.specs.declared.ReportAnswer.the-variants as report
-use Rattle.language.specs.Refusals.{numberOf, valueOf}
+use Rattle.refusals.specs.declared.Answer.{Answer}
+use Rattle.refusals.specs.declared.Answer.the-variants as answer
+use Rattle.refusals.specs.declared.SetAnswer.{SetAnswer}
+use Rattle.refusals.specs.declared.SetAnswer.the-variants as set
+use Rattle.refusals.specs.declared.ReportAnswer.{ReportAnswer}
+use Rattle.refusals.specs.declared.ReportAnswer.the-variants as report
+use Rattle.refusals.specs.Refusals.{numberOf, valueOf}
 use Rattle.language.specs.Grammar.{inPlay, mirrored}
 use Rattle.language.specs.Words.{grammarOf}
 use Rattle.language.specs.CheckSamples.{wordsK}
@@ -31,7 +31,7 @@ use Rattle.language.specs.Trees.{Span}
 use Rattle.machine.specs.Chunks.{running, stuck, Chunk}
 use Rattle.machine.specs.States.{State, Called, refused, became, Ran, refusedRun, ran, run, join, start, chunkAt, placeOf, refusalOf, outcome}
 use Rattle.machine.specs.Schedules.{by-join}
-use Rattle.machine.specs.Bounded.{mostMoves}
+use Rattle.results.specs.Bounded.{mostMoves}
 use Rattle.machine.specs.Answers.{outcomeAnswer, outcomeOut}
 use Rattle.area.specs.Layout.{need, zeros, encode, decode}
 use Rattle.area.specs.Shape.{grammarInShape}

@@ -1,17 +1,17 @@
 // An answer as numbers, for callers that know no enum: its number, 0 on success, and what it gives besides.
-use language::Answer;
-use language::ReportAnswer;
-use language::RunAnswer;
-use language::SetAnswer;
+use refusals::Answer;
+use refusals::ReportAnswer;
+use refusals::RunAnswer;
+use refusals::SetAnswer;
 ghost use mathlib.Core.Path.{_≡_};
-ghost use Rattle.language.specs.Refusals.{answerNumber, answerValue, setNumber, setValue, setSize, runNumber, runValue, reportNumber, reportValue, reportMoves};
+ghost use Rattle.refusals.specs.Refusals.{answerNumber, answerValue, setNumber, setValue, setSize, runNumber, runValue, reportNumber, reportValue, reportMoves};
 
 pub fn number(answer: Answer) -> u32
     ensures { λ r. ⌜ r ≡ answerNumber answer ⌝ }
 {
     match answer {
         Answer::Done => 0,
-        Answer::Refused(refusal) => language::number(refusal),
+        Answer::Refused(refusal) => refusals::number(refusal),
     }
 }
 
@@ -20,7 +20,7 @@ pub fn value(answer: Answer) -> u32
 {
     match answer {
         Answer::Done => 0,
-        Answer::Refused(refusal) => language::value(refusal),
+        Answer::Refused(refusal) => refusals::value(refusal),
     }
 }
 
@@ -29,7 +29,7 @@ pub fn set_number(answer: SetAnswer) -> u32
 {
     match answer {
         SetAnswer::Terminals(_, _) => 0,
-        SetAnswer::Refused(refusal) => language::number(refusal),
+        SetAnswer::Refused(refusal) => refusals::number(refusal),
     }
 }
 
@@ -39,7 +39,7 @@ pub fn set_value(answer: SetAnswer) -> u64
 {
     match answer {
         SetAnswer::Terminals(mask, _) => mask,
-        SetAnswer::Refused(refusal) => language::value(refusal) as u64,
+        SetAnswer::Refused(refusal) => refusals::value(refusal) as u64,
     }
 }
 
@@ -57,7 +57,7 @@ pub fn run_number(answer: RunAnswer) -> u32
 {
     match answer {
         RunAnswer::Moves(_) => 0,
-        RunAnswer::Refused(refusal) => language::number(refusal),
+        RunAnswer::Refused(refusal) => refusals::number(refusal),
     }
 }
 
@@ -67,7 +67,7 @@ pub fn run_value(answer: RunAnswer) -> u32
 {
     match answer {
         RunAnswer::Moves(made) => made,
-        RunAnswer::Refused(refusal) => language::value(refusal),
+        RunAnswer::Refused(refusal) => refusals::value(refusal),
     }
 }
 
@@ -76,7 +76,7 @@ pub fn report_number(answer: ReportAnswer) -> u32
 {
     match answer {
         ReportAnswer::Report(_, _) => 0,
-        ReportAnswer::Refused(refusal) => language::number(refusal),
+        ReportAnswer::Refused(refusal) => refusals::number(refusal),
     }
 }
 
@@ -86,7 +86,7 @@ pub fn report_value(answer: ReportAnswer) -> u32
 {
     match answer {
         ReportAnswer::Report(entries, _) => entries,
-        ReportAnswer::Refused(refusal) => language::value(refusal),
+        ReportAnswer::Refused(refusal) => refusals::value(refusal),
     }
 }
 

@@ -7,7 +7,7 @@ ghost use mathlib.Core.Path.{_≡_};
 ghost use lib.ListN.{length};
 ghost use Rattle.language.specs.Checks.{checkSymbols, checkWords};
 ghost use Rattle.language.specs.Loads.{loadAnswer, loadBytes, leftSetAnswer, rightSetAnswer};
-ghost use Rattle.language.specs.Refusals.{answerNumber, answerValue, setNumber, setValue, setSize, runNumber, runValue, reportNumber, reportValue, reportMoves};
+ghost use Rattle.refusals.specs.Refusals.{answerNumber, answerValue, setNumber, setValue, setSize, runNumber, runValue, reportNumber, reportValue, reportMoves};
 ghost use Rattle.area.specs.Shape.{inShape};
 ghost use Rattle.area.specs.Start.{startAnswer, startArea};
 ghost use Rattle.reader.specs.Calls.{stepAnswer, stepArea, runAnswer, runArea, joinAnswer, joinArea};

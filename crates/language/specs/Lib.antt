@@ -15,7 +15,6 @@ pub mod Mirror
 pub mod Pairwise
 pub mod PassedWords
 pub mod PostOrder
-pub mod Refusals
 pub mod RelationPairs
 pub mod RelationTests
 pub mod Relations

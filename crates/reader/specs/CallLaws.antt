@@ -11,8 +11,8 @@ use native.Mathlib.Omega.{arith}
 use lib.Dec.{eqb, ltb, leb}
 use lib.ListN.{length, getD, drop}
 use Rattle.laws.specs.Tests.{ltb-true, leb-true, ltb-not, leb-not, eqb-true, eq-eqb, not-both}
-use Rattle.language.specs.declared.Refusal.the-variants.{BadState, NoChunk, AtRest}
-use Rattle.language.specs.declared.Answer.the-variants.{Done, Refused}
+use Rattle.refusals.specs.declared.Refusal.the-variants.{BadState, NoChunk, AtRest}
+use Rattle.refusals.specs.declared.Answer.the-variants.{Done, Refused}
 use Rattle.language.specs.Trees.{Span}
 use Rattle.machine.specs.States.{Called, refused, step}
 use Rattle.machine.specs.TableOf.{tableOf}

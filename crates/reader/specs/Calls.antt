@@ -9,11 +9,11 @@ use mathlib.Core.Bool.{true, false}
 use mathlib.Core.List.{List, _++_}
 use Prim.Native.Nat.{ℕ}
 use lib.ListN.{getD}
-use Rattle.language.specs.declared.Refusal.the-variants.{BadState}
-use Rattle.language.specs.declared.Answer.{Answer}
-use Rattle.language.specs.declared.Answer.the-variants.{Done, Refused}
-use Rattle.language.specs.declared.RunAnswer.{RunAnswer}
-use Rattle.language.specs.declared.RunAnswer.the-variants as run
+use Rattle.refusals.specs.declared.Refusal.the-variants.{BadState}
+use Rattle.refusals.specs.declared.Answer.{Answer}
+use Rattle.refusals.specs.declared.Answer.the-variants.{Done, Refused}
+use Rattle.refusals.specs.declared.RunAnswer.{RunAnswer}
+use Rattle.refusals.specs.declared.RunAnswer.the-variants as run
 use Rattle.language.specs.Trees.{Span}
 use Rattle.machine.specs.States
 use Rattle.machine.specs.States.{State, Called, refused, became, Ran, refusedRun, ran}

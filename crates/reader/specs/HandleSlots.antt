@@ -17,7 +17,7 @@ use lib.ListN.{length, length-append}
 use Rattle.language.specs.Symbols.{terminal}
 use Rattle.language.specs.Trees.{Span}
 use Rattle.machine.specs.Entries.{Unread, terminalAt, nonterminalAt, Entry, terminalOn, nonterminalOn, symbol, valueOf, stackSymbols, Handle, handleOf}
-use Rattle.machine.specs.RunsEnd.{terminalsOn, MarksFine, fine-nonterminal, fine-unmarked, fine-marked}
+use Rattle.results.specs.RunsEnd.{terminalsOn, MarksFine, fine-nonterminal, fine-unmarked, fine-marked}
 use Rattle.machine.specs.Spans.{spanOf}
 use Rattle.machine.specs.States.{State, live}
 use Rattle.machine.specs.Starts.{symbolsAlong}

@@ -12,8 +12,8 @@ use Prim.Native.Nat.{ℕ, _+_, _<_, _≤_}
 use native.Mathlib.Omega.{arith}
 use lib.ListN.{getD, length-append}
 use Rattle.laws.specs.Tests.{not-both}
-use Rattle.language.specs.declared.Refusal.the-variants.{BadState, NoChunk, NoJoin}
-use Rattle.language.specs.declared.Answer.the-variants.{Done, Refused}
+use Rattle.refusals.specs.declared.Refusal.the-variants.{BadState, NoChunk, NoJoin}
+use Rattle.refusals.specs.declared.Answer.the-variants.{Done, Refused}
 use Rattle.language.specs.Trees.{Span}
 use Rattle.machine.specs.Chunks.{Chunk}
 use Rattle.machine.specs.States.{Called, refused, join}

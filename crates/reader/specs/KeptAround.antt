@@ -15,8 +15,8 @@ use Rattle.machine.specs.Entries.{stackSymbols}
 use Rattle.machine.specs.Chunks.{Chunk}
 use Rattle.machine.specs.States.{State, live}
 use Rattle.machine.specs.Starts.{symbolsAlong}
-use Rattle.machine.specs.RunsEnd.{terminalsOn, MarksFine}
-use Rattle.machine.specs.Bounded.{terminalsIn, AllFine, all-fine-cons}
+use Rattle.results.specs.RunsEnd.{terminalsOn, MarksFine}
+use Rattle.results.specs.Bounded.{terminalsIn, AllFine, all-fine-cons}
 use Rattle.machine.specs.Allowed.{AllGone, no-number, one-gone, Live}
 use Rattle.area.specs.Layout.{stackSize, total}
 use Rattle.area.specs.Kept.{Tiles, AllInRange, LastHolds, later-holds, Ending, whole, accepted, Kept}

@@ -3,16 +3,16 @@
 -- the one-call parse has passed 11 for its work area, the words its formula counts are all zero when it ends, accepted or refused;
 -- its other buffers follow the general rule"; "The front-to-back parse is C = 1, also offered as one call."
 -- It is load, start with no cuts, a run of chunk 0 until it rests, and the row's outcome.
--- Rests on area's Start, machine's States, TableOf, Bounded and Answers, and language's Loads.
+-- Rests on area's Start, machine's States, TableOf and Answers and results' Bounded, and language's Loads.
 --
 -- Main definitions: parseOutcome, parseAnswer, parseArea, parseOut.
 use mathlib.Core.List.{List, [], _++_}
 use Prim.Native.Nat.{ℕ}
 use lib.ListN.{length, drop}
-use Rattle.language.specs.declared.Answer.{Answer}
-use Rattle.language.specs.declared.Answer.the-variants.{Done, Refused}
-use Rattle.language.specs.declared.ReportAnswer.{ReportAnswer}
-use Rattle.language.specs.declared.ReportAnswer.the-variants as report
+use Rattle.refusals.specs.declared.Answer.{Answer}
+use Rattle.refusals.specs.declared.Answer.the-variants.{Done, Refused}
+use Rattle.refusals.specs.declared.ReportAnswer.{ReportAnswer}
+use Rattle.refusals.specs.declared.ReportAnswer.the-variants as report
 use Rattle.language.specs.Words.{grammarOf}
 use Rattle.language.specs.Matrix.{matrixOf}
 use Rattle.language.specs.Loads.{loadAnswer}
@@ -20,7 +20,7 @@ use Rattle.language.specs.Trees.{Span}
 use Rattle.machine.specs.States
 use Rattle.machine.specs.States.{Ran, refusedRun, ran, Outcome, refusedRow, outcome, start}
 use Rattle.machine.specs.TableOf.{tableOf}
-use Rattle.machine.specs.Bounded.{mostMoves}
+use Rattle.results.specs.Bounded.{mostMoves}
 use Rattle.machine.specs.Answers.{outcomeAnswer, outcomeOut}
 use Rattle.area.specs.Layout.{need, zeros}
 use Rattle.area.specs.Start.{startAnswer}

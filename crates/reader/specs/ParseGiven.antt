@@ -1,7 +1,7 @@
 -- When exactly the one-call parse gives 11, for its work area and for its report.
 -- Document 01: "The one-call parse checks 1 to 9 by number, then 11 for the work area, then 17 to 20, then 11 for the report"; 11 NO ROOM "the
 -- run to be written is too short", "words or bytes needed".
--- Rests on ParseCall and ParseLaws, on area's Start, StartKept and EndMarkOfShape, machine's Answers and UncutRow, and language's Loads.
+-- Rests on ParseCall and ParseLaws, on area's Start, StartKept and EndMarkOfShape, machine's Answers and results' UncutRow, and language's Loads.
 --
 -- Main definitions: Checked (1 to 9 pass), ParseNoRoom. Main statements: parse-area-given, parse-begins, parse-room-given.
 use mathlib.Core.Path.{_≡_, refl, sym, ap, _∙_}
@@ -13,19 +13,19 @@ use native.Mathlib.Omega.{arith}
 use lib.ListN.{length}
 use Rattle.laws.specs.Least.{Nowhere}
 use Rattle.laws.specs.Tests.{le-unless}
-use Rattle.language.specs.declared.Refusal.{Refusal}
-use Rattle.language.specs.declared.Refusal.the-variants.{NoRoom}
-use Rattle.language.specs.declared.Answer.{Answer}
-use Rattle.language.specs.declared.Answer.the-variants.{Done, Refused}
-use Rattle.language.specs.declared.ReportAnswer.the-variants as report
-use Rattle.language.specs.Refusals.{numberOf}
+use Rattle.refusals.specs.declared.Refusal.{Refusal}
+use Rattle.refusals.specs.declared.Refusal.the-variants.{NoRoom}
+use Rattle.refusals.specs.declared.Answer.{Answer}
+use Rattle.refusals.specs.declared.Answer.the-variants.{Done, Refused}
+use Rattle.refusals.specs.declared.ReportAnswer.the-variants as report
+use Rattle.refusals.specs.Refusals.{numberOf}
 use Rattle.language.specs.Words.{grammarOf}
 use Rattle.language.specs.Matrix.{matrixOf}
 use Rattle.language.specs.Loads.{Accepted, loadAnswer, load-room-given, accepted-exactly}
 use Rattle.machine.specs.States.{Outcome, refusedRow}
 use Rattle.machine.specs.Answers.{NoRoomForReport, outcome-room-given}
 use Rattle.machine.specs.TableOf.{own-end-mark, own-laws}
-use Rattle.machine.specs.UncutRow.{Verdict, accepted, refused, first-refusal-number, run-verdict}
+use Rattle.results.specs.UncutRow.{Verdict, accepted, refused, first-refusal-number, run-verdict}
 use Rattle.area.specs.Layout.{need}
 use Rattle.area.specs.EndMarkOfShape.{own-shape}
 use Rattle.area.specs.StartKept.{no-end}

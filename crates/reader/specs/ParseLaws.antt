@@ -1,7 +1,7 @@
 -- The one-call parse by what its code finds in the words: a row that has started, read until it rests, and what its words then say.
 -- Document 01: "The front-to-back parse is C = 1, also offered as one call"; 17 to 20 "the finished row stuck so"; "The report": an uncut row's
 -- reductions are made in the report's order, so that nothing is left to put in order.
--- Rests on ParseCall and RunMoves, on machine's UncutRow and ReadThrough, area's Start, StartKept, Safe, InShape and Decode, and report's OutcomeWords.
+-- Rests on ParseCall and RunMoves, on results' UncutRow and ReadThrough, area's Start, StartKept, Safe, InShape and Decode, and report's OutcomeWords.
 --
 -- Main definitions: Begun (a row has started), Finished (its words once it rests), Parsed.
 -- Main statements: begun-runs, begun-few, begun-parsed, row-read; not-loaded, not-started, begun, parsed.
@@ -11,11 +11,11 @@ use mathlib.Core.List.{List, [], _∷_, _++_, append-nil}
 use Prim.Native.Nat.{ℕ, _+_, _*_, _≤_, _<_}
 use native.Mathlib.Omega.{arith}
 use lib.ListN.{length, getD, drop, length-append, drop-of-length-le}
-use Rattle.language.specs.declared.Refusal.{Refusal}
-use Rattle.language.specs.declared.Answer.{Answer}
-use Rattle.language.specs.declared.Answer.the-variants.{Done, Refused}
-use Rattle.language.specs.declared.ReportAnswer.{ReportAnswer}
-use Rattle.language.specs.declared.ReportAnswer.the-variants as report
+use Rattle.refusals.specs.declared.Refusal.{Refusal}
+use Rattle.refusals.specs.declared.Answer.{Answer}
+use Rattle.refusals.specs.declared.Answer.the-variants.{Done, Refused}
+use Rattle.refusals.specs.declared.ReportAnswer.{ReportAnswer}
+use Rattle.refusals.specs.declared.ReportAnswer.the-variants as report
 use Rattle.language.specs.Words.{countT, countN, grammarOf}
 use Rattle.language.specs.Grammar.{Grammar}
 use Rattle.language.specs.Matrix.{matrixOf}
@@ -28,12 +28,12 @@ use Rattle.machine.specs.Chunks.{Chunk, stuck}
 use Rattle.machine.specs.States.{State, ran, moving, run, unreadFrom, start, outcome}
 use Rattle.machine.specs.TableOf.{tableOf, ownTable, own-end-mark, own-laws}
 use Rattle.machine.specs.Answers.{outcomeAnswer, outcomeOut}
-use Rattle.machine.specs.Runs.{Out, Ends}
-use Rattle.machine.specs.RunsEnd.{fine-empty, fine-unmarked, run-ends}
+use Rattle.results.specs.Runs.{Out, Ends}
+use Rattle.results.specs.RunsEnd.{fine-empty, fine-unmarked, run-ends}
 use Rattle.machine.specs.Starts.{bottom}
-use Rattle.machine.specs.Bounded.{mostMoves}
-use Rattle.machine.specs.ReadThrough.{alone, Rested, rests-over, rests-stuck, ends-read-through, run-reads-through}
-use Rattle.machine.specs.UncutRow.{axiom-of-run, made-in-order}
+use Rattle.results.specs.Bounded.{mostMoves}
+use Rattle.results.specs.ReadThrough.{alone, Rested, rests-over, rests-stuck, ends-read-through, run-reads-through}
+use Rattle.results.specs.UncutRow.{axiom-of-run, made-in-order}
 use Rattle.area.specs.Layout.{need, zeros, encode, decode, statusWord, madeAtWord, readMade}
 use Rattle.area.specs.Kept.{Kept}
 use Rattle.area.specs.Lengths.{within-slots, few-reductions, encode-length}

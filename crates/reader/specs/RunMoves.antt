@@ -11,10 +11,10 @@ use Prim.Native.Nat.{ℕ, suc, _+_, _-_, _<_, _≤_}
 use native.Mathlib.Omega.{arith}
 use lib.ListN.{length, getD, drop}
 use Rattle.laws.specs.Tests.{lt-ltb}
-use Rattle.language.specs.declared.Refusal.the-variants.{BadState, NoChunk, AtRest}
-use Rattle.language.specs.declared.Answer.{Answer}
-use Rattle.language.specs.declared.Answer.the-variants.{Done, Refused}
-use Rattle.language.specs.declared.RunAnswer.the-variants as answer
+use Rattle.refusals.specs.declared.Refusal.the-variants.{BadState, NoChunk, AtRest}
+use Rattle.refusals.specs.declared.Answer.{Answer}
+use Rattle.refusals.specs.declared.Answer.the-variants.{Done, Refused}
+use Rattle.refusals.specs.declared.RunAnswer.the-variants as answer
 use Rattle.language.specs.Trees.{Span}
 use Rattle.language.specs.Words.{countT, countN}
 use Rattle.machine.specs.States.{State, Ran, refusedRun, ran, moving, run}

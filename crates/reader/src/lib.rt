@@ -4,9 +4,9 @@ mod moves;
 mod parsing;
 
 use crate::calls::Right;
-use language::Answer;
-use language::ReportAnswer;
-use language::RunAnswer;
+use refusals::Answer;
+use refusals::ReportAnswer;
+use refusals::RunAnswer;
 ghost use mathlib.Core.Path.{_≡_};
 ghost use lib.ListN.{length};
 ghost use Rattle.reader.specs.Calls.{stepAnswer, stepArea, runAnswer, runArea, joinAnswer, joinArea};

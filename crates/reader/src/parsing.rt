@@ -1,9 +1,9 @@
 // The one-call parse: load and start, the moves of chunk 0 until it rests, the row's outcome read off the words, and the words cleared.
 use crate::calls;
 use crate::moves;
-use language::Answer;
-use language::Refusal;
-use language::ReportAnswer;
+use refusals::Answer;
+use refusals::Refusal;
+use refusals::ReportAnswer;
 ghost use mathlib.Core.Path.{_≡_};
 ghost use mathlib.Core.List.{_++_};
 ghost use Prim.Native.Nat.{_+_, _*_, _≤_};

@@ -10,10 +10,10 @@ use lib.ListN.{length, getD, take, drop}
 use lib.Seq.{take-take, drop-at}
 use Rattle.laws.specs.Picks.{pick}
 use Rattle.laws.specs.Tests.{lt-ltb, le-ltb, le-leb, lt-leb}
-use Rattle.language.specs.declared.Refusal.{Refusal}
-use Rattle.language.specs.declared.Refusal.the-variants.{Unfinished, NoRoom}
-use Rattle.language.specs.declared.ReportAnswer.{ReportAnswer}
-use Rattle.language.specs.declared.ReportAnswer.the-variants.{Report, Refused}
+use Rattle.refusals.specs.declared.Refusal.{Refusal}
+use Rattle.refusals.specs.declared.Refusal.the-variants.{Unfinished, NoRoom}
+use Rattle.refusals.specs.declared.ReportAnswer.{ReportAnswer}
+use Rattle.refusals.specs.declared.ReportAnswer.the-variants.{Report, Refused}
 use Rattle.language.specs.Trees.{Span, Reduction}
 use Rattle.language.specs.Reports.{putInOrder, reportWords}
 use Rattle.machine.specs.States.{Outcome, refusedRow, reported}

@@ -5,9 +5,9 @@ use mathlib.Core.Bool.{Bool, true, false}
 use mathlib.Core.List.{List}
 use Prim.Native.Nat.{ℕ, _<_}
 use lib.ListN.{length, getD}
-use Rattle.language.specs.declared.Refusal.the-variants.{BadState}
-use Rattle.language.specs.declared.ReportAnswer.{ReportAnswer}
-use Rattle.language.specs.declared.ReportAnswer.the-variants.{Refused}
+use Rattle.refusals.specs.declared.Refusal.the-variants.{BadState}
+use Rattle.refusals.specs.declared.ReportAnswer.{ReportAnswer}
+use Rattle.refusals.specs.declared.ReportAnswer.the-variants.{Refused}
 use Rattle.machine.specs.States.{refusedRow, outcome}
 use Rattle.area.specs.Layout.{decode}
 use Rattle.area.specs.Shape.{inShape}

@@ -17,8 +17,8 @@ use lib.ListN.{length, getD, drop, length-append}
 use Rattle.laws.specs.Picks.{pick}
 use Rattle.laws.specs.Parts.{drop-past, getD-past}
 use Rattle.laws.specs.Tests.{lt-ltb, le-ltb}
-use Rattle.language.specs.declared.Refusal.{Refusal}
-use Rattle.language.specs.declared.Refusal.the-variants.{Unfinished, NoRelation, NoRule, NotAxiom, SideBySide}
+use Rattle.refusals.specs.declared.Refusal.{Refusal}
+use Rattle.refusals.specs.declared.Refusal.the-variants.{Unfinished, NoRelation, NoRule, NotAxiom, SideBySide}
 use Rattle.language.specs.Symbols.{Symbol, terminal, nonterminal}
 use Rattle.language.specs.Trees.{Span, Reduction}
 use Rattle.language.specs.Reports.{putInOrder}

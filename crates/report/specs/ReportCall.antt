@@ -12,8 +12,8 @@ use Prim.Native.Nat.{ℕ, _+_, _*_}
 use lib.Dec.{leb}
 use lib.ListN.{length, getD}
 use lib.Seq.{slice}
-use Rattle.language.specs.declared.Refusal.the-variants.{BadState}
-use Rattle.language.specs.declared.ReportAnswer.{ReportAnswer}
+use Rattle.refusals.specs.declared.Refusal.the-variants.{BadState}
+use Rattle.refusals.specs.declared.ReportAnswer.{ReportAnswer}
 use Rattle.machine.specs.States.{Outcome, refusedRow, outcome}
 use Rattle.machine.specs.Answers.{outcomeAnswer, outcomeOut}
 use Rattle.area.specs.Layout.{decode}

@@ -2,8 +2,8 @@
 mod order;
 mod outcome;
 
-use language::Refusal;
-use language::ReportAnswer;
+use refusals::Refusal;
+use refusals::ReportAnswer;
 ghost use mathlib.Core.Path.{_≡_};
 ghost use lib.ListN.{length};
 ghost use Rattle.report.specs.ReportCall.{reportAnswer, reportOut, entryStart, entryTokens, wordAddress};

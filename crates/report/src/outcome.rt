@@ -1,7 +1,7 @@
 // The outcome of a row, read off the words of an area in shape, and its report written.
 use crate::order;
-use language::Refusal;
-use language::ReportAnswer;
+use refusals::Refusal;
+use refusals::ReportAnswer;
 ghost use mathlib.Core.Path.{_≡_};
 ghost use mathlib.Core.List.{_++_};
 ghost use Prim.Native.Nat.{_+_, _*_, _-_, _≤_};

@@ -14,12 +14,12 @@ use native.Mathlib.Omega.{arith}
 use lib.Dec.{ltb}
 use lib.ListN.{length}
 use Rattle.laws.specs.Tests.{ltb-false}
-use Rattle.language.specs.declared.Answer.{Answer}
-use Rattle.language.specs.declared.Answer.the-variants.{Done, Refused as AnswerRefused}
-use Rattle.language.specs.declared.Refusal.{Refusal}
-use Rattle.language.specs.declared.Refusal.the-variants.{NoRoom}
-use Rattle.language.specs.declared.ReportAnswer.{ReportAnswer}
-use Rattle.language.specs.declared.ReportAnswer.the-variants.{Report, Refused}
+use Rattle.refusals.specs.declared.Answer.{Answer}
+use Rattle.refusals.specs.declared.Answer.the-variants.{Done, Refused as AnswerRefused}
+use Rattle.refusals.specs.declared.Refusal.{Refusal}
+use Rattle.refusals.specs.declared.Refusal.the-variants.{NoRoom}
+use Rattle.refusals.specs.declared.ReportAnswer.{ReportAnswer}
+use Rattle.refusals.specs.declared.ReportAnswer.the-variants.{Report, Refused}
 use Rattle.language.specs.Loads.{loadAnswer, loadBytes}
 use Rattle.machine.specs.States.{Outcome, refusedRow, reported}
 use Rattle.machine.specs.Answers.{outcomeAnswer}

@@ -1,6 +1,6 @@
 // The answer on standard output, each line ended by a line feed.
-use language::Refusal;
-use language::ReportAnswer;
+use refusals::Refusal;
+use refusals::ReportAnswer;
 use libc::STDOUT_FILENO;
 use text::writing;
 ghost use Prim.Native.Nat.{_*_, _≤_};
@@ -16,7 +16,7 @@ pub(crate) fn write_text(line: u32) {
 
 // `refused number value`.
 fn write_refused(out: &mut [u8], refusal: Refusal) {
-    let end = writing::put_refused(out, 0, language::number(refusal), language::value(refusal));
+    let end = writing::put_refused(out, 0, refusals::number(refusal), refusals::value(refusal));
     io::write_all(STDOUT_FILENO, &out[..end]);
 }
 

@@ -1,7 +1,7 @@
 // The order of calls in which `rows` reads a row. Document 01, "Sample rows": "It moves chunk 0 until at rest, then 1, and so on, then
 // joins chunk 0 rightwards, moving it to rest after each join."
-use language::Answer;
-use language::ReportAnswer;
+use refusals::Answer;
+use refusals::ReportAnswer;
 ghost use mathlib.Core.Path.{_≡_};
 ghost use Prim.Native.Nat.{_-_, _≤_};
 ghost use lib.ListN.{length};

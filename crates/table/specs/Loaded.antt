@@ -16,10 +16,10 @@ use lib.ListN.{length, drop}
 use Rattle.laws.specs.Picks.{pick}
 use Rattle.laws.specs.Least.{firstBelow}
 use Rattle.laws.specs.Tests.{lt-ltb, le-leb, lt-leb}
-use Rattle.language.specs.declared.Refusal.{Refusal}
-use Rattle.language.specs.declared.Refusal.the-variants.{Conflict, NoRoom, NoNonterminal}
-use Rattle.language.specs.declared.Answer.{Answer}
-use Rattle.language.specs.declared.Answer.the-variants.{Done, Refused}
+use Rattle.refusals.specs.declared.Refusal.{Refusal}
+use Rattle.refusals.specs.declared.Refusal.the-variants.{Conflict, NoRoom, NoNonterminal}
+use Rattle.refusals.specs.declared.Answer.{Answer}
+use Rattle.refusals.specs.declared.Answer.the-variants.{Done, Refused}
 use Rattle.language.specs.Grammar.{Grammar}
 use Rattle.language.specs.Words.{countN, grammarOf}
 use Rattle.language.specs.Stages.{Stage, checked, thenChecked, stagesOf, asked, checked-append}
@@ -33,7 +33,7 @@ use Rattle.language.specs.SetMasks.{leftSet, leftSize}
 use Rattle.language.specs.Conflicts.{conflictStage}
 use Rattle.language.specs.Matrix.{matrixOf}
 use Rattle.language.specs.Loads.{LoadInput, conflictCondition, matrixRoom, roomCondition, loadAnswer, loadBytes, loadedBytes, SetInput, pastTheLast, nonterminalCondition, setChecked, setOrRefusal}
-use Rattle.language.specs.declared.SetAnswer.the-variants as set
+use Rattle.refusals.specs.declared.SetAnswer.the-variants as set
 use Rattle.table.specs.Answered.{refused, passed}
 use Rattle.table.specs.RelationRows.{twoAt}
 

@@ -1,32 +1,28 @@
 -- A search that goes up from 0 and stops at the first failure of a check finds the least value at which the check fails.
 -- Document 01, "Refusal numbers": "first such word", "first such entry", "first such rule", "least rule for which this holds".
--- Rests on laws' Least and Tests.
+-- Rests on laws' Least and Tests, and on language's Stages.
 --
--- Main definition: answerOf; of laws: Clear.
+-- Main definition, of laws: Clear.
 -- Main statements: found-at, found-nowhere (what a check answers whose search finds that), fails-below, clear-below (a search that answers yes
 -- or no).
 use mathlib.Core.Path.{_≡_, sym, ap}
 use mathlib.Core.Bool.{Bool, true, false}
-use mathlib.Core.Option.{Option, none, some}
+use mathlib.Core.Option.{Option}
 use Prim.Native.Nat.{ℕ, _≤_, _<_}
 use native.Mathlib.Omega.{arith}
 use Rattle.laws.specs.Least.{firstBelow, first-at, first-nowhere}
 pub use Rattle.laws.specs.Least.{Clear, clear-none, clear-more}
 use Rattle.laws.specs.Tests.{not-both, false-unless, anyBelow, anyBelow-iff}
-use Rattle.language.specs.declared.Refusal.{Refusal}
-use Rattle.language.specs.declared.Answer.{Answer}
-use Rattle.language.specs.declared.Answer.the-variants.{Done, Refused}
-
--- what a check answers whose search finds that
-abbrev pub answerOf : (ℕ → Refusal) → Option ℕ → Answer
-answerOf refusal o = elim o [ none ↦ Done | some v ↦ Refused (refusal v) ]
+use Rattle.refusals.specs.declared.Refusal.{Refusal}
+use Rattle.refusals.specs.declared.Answer.the-variants.{Done, Refused}
+use Rattle.language.specs.Stages.{refusedBy}
 
 module _ (fails : ℕ → Bool) where
-  pub found-at : (refusal : ℕ → Refusal) (n i : ℕ) → i < n → Clear fails i → fails i ≡ true → Refused (refusal i) ≡ answerOf refusal (firstBelow fails n)
-  found-at refusal n i h clear e = ap (answerOf refusal) (sym (first-at fails n i h clear e))
+  pub found-at : (refusal : ℕ → Refusal) (n i : ℕ) → i < n → Clear fails i → fails i ≡ true → Refused (refusal i) ≡ refusedBy refusal (firstBelow fails n) Done
+  found-at refusal n i h clear e = ap (λ (found : Option ℕ). refusedBy refusal found Done) (sym (first-at fails n i h clear e))
 
-  pub found-nowhere : (refusal : ℕ → Refusal) (n i : ℕ) → n ≤ i → Clear fails i → Done ≡ answerOf refusal (firstBelow fails n)
-  found-nowhere refusal n i h clear = ap (answerOf refusal) (sym (first-nowhere fails n i h clear))
+  pub found-nowhere : (refusal : ℕ → Refusal) (n i : ℕ) → n ≤ i → Clear fails i → Done ≡ refusedBy refusal (firstBelow fails n) Done
+  found-nowhere refusal n i h clear = ap (λ (found : Option ℕ). refusedBy refusal found Done) (sym (first-nowhere fails n i h clear))
 
   -- a search that only asks whether the check fails
   pub fails-below : (n i : ℕ) → i < n → fails i ≡ true → true ≡ anyBelow fails n

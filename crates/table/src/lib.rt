@@ -3,9 +3,9 @@ mod relations;
 mod sets;
 mod words;
 
-use language::Answer;
-use language::Refusal;
-use language::SetAnswer;
+use refusals::Answer;
+use refusals::Refusal;
+use refusals::SetAnswer;
 ghost use mathlib.Core.Path.{_≡_};
 ghost use lib.ListN.{length};
 ghost use Rattle.language.specs.Words.{grammarOf};

@@ -3,8 +3,8 @@
 // Row 4a + 1 holds the b that a yields to, row 4a + 2 the b that a is equal to, and row 4b + 3 the a that take over b.
 use crate::sets;
 use crate::words;
-use language::Answer;
-use language::Refusal;
+use refusals::Answer;
+use refusals::Refusal;
 ghost use mathlib.Core.Path.{_≡_};
 ghost use mathlib.Core.List.{_++_};
 ghost use Prim.Native.Nat.{_≤_, _<_};

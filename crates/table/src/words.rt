@@ -1,7 +1,7 @@
 // Checks 1 to 5 of the grammar words, each over the whole grammar. Document 01, "The grammar words" and "Refusal numbers".
 // For each check a test of one candidate (a head word, an entry, a word place, a rule), and a search for the first that fails.
-use language::Answer;
-use language::Refusal;
+use refusals::Answer;
+use refusals::Refusal;
 ghost use mathlib.Core.Path.{_≡_};
 ghost use mathlib.Core.List.{[], _∷_};
 ghost use Prim.Native.Nat.{_+_, _≤_, _<_};

@@ -8,7 +8,7 @@
 use crate::input;
 use crate::shown;
 use crate::shown::Told;
-use language::Answer;
+use refusals::Answer;
 
 // A run's budget; 65,535 stands for the greatest.
 fn next_budget() -> u32 {

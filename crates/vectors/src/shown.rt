@@ -1,10 +1,10 @@
 // The output: answers as numbers, sums of what is lent, and the two put together.
 use crate::input::wide_byte;
-use language::Answer;
-use language::Refusal;
-use language::ReportAnswer;
-use language::RunAnswer;
-use language::SetAnswer;
+use refusals::Answer;
+use refusals::Refusal;
+use refusals::ReportAnswer;
+use refusals::RunAnswer;
+use refusals::SetAnswer;
 use libc::STDOUT_FILENO;
 ghost use Prim.Native.Nat.{_<_};
 
@@ -27,8 +27,8 @@ pub fn show(n: u64) {
 
 fn refused(refusal: Refusal) -> Told {
     Told {
-        number: language::number(refusal),
-        value: language::value(refusal) as u64,
+        number: refusals::number(refusal),
+        value: refusals::value(refusal) as u64,
         more: 0,
     }
 }

@@ -1,7 +1,7 @@
 -- `start` answers what the checks answer; where they pass it writes the row's words, and else nothing.
 use mathlib.Core.Path.{_≡_, sym, _∙_}
 use lib.ListN.{length}
-use Rattle.language.specs.declared.Answer.the-variants.{Done}
+use Rattle.refusals.specs.declared.Answer.the-variants.{Done}
 use Rattle.area.specs.Start.{startAnswer}
 use Rattle.area.specs.StartChecks.{writable}
 use Rattle.area.proofs.StartLaw.{area-kept, area-started}

@@ -1,6 +1,6 @@
 -- The answer of `left_set`, as number, mask and size.
 use mathlib.Core.Path.{ap, _∙_}
-use Rattle.language.specs.Refusals.{setNumber, setValue, setSize}
+use Rattle.refusals.specs.Refusals.{setNumber, setValue, setSize}
 use borrow.Author.Needs.{needs}
 use Rattle.grugalash.proofs.grugalash_left_set.Statement.{statement}
 use Rattle.grugalash.proofs.grugalash_left_set.Tie as tie

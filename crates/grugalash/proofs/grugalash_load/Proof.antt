@@ -1,6 +1,6 @@
 -- The answer of `load`, as number and value, and what it leaves in the matrix.
 use mathlib.Core.Path.{ap, _∙_}
-use Rattle.language.specs.Refusals.{answerNumber, answerValue}
+use Rattle.refusals.specs.Refusals.{answerNumber, answerValue}
 use borrow.Author.Needs.{needs}
 use Rattle.grugalash.proofs.grugalash_load.Statement.{statement}
 use Rattle.grugalash.proofs.grugalash_load.Tie as tie

@@ -1,6 +1,6 @@
 -- The answer of `report`, as number, entries and moves, and what it leaves in the report run.
 use mathlib.Core.Path.{ap, _∙_}
-use Rattle.language.specs.Refusals.{reportNumber, reportValue, reportMoves}
+use Rattle.refusals.specs.Refusals.{reportNumber, reportValue, reportMoves}
 use borrow.Author.Needs.{needs}
 use Rattle.grugalash.proofs.grugalash_report.Statement.{statement}
 use Rattle.grugalash.proofs.grugalash_report.Tie as tie

@@ -1,6 +1,6 @@
 -- The answer of `run`, as number and value, and what it leaves in the area.
 use mathlib.Core.Path.{ap, _∙_}
-use Rattle.language.specs.Refusals.{runNumber, runValue}
+use Rattle.refusals.specs.Refusals.{runNumber, runValue}
 use borrow.Author.Needs.{needs}
 use Rattle.grugalash.proofs.grugalash_run.Statement.{statement}
 use Rattle.grugalash.proofs.grugalash_run.Tie as tie

@@ -6,8 +6,8 @@ use Prim.Native.Nat.{ℕ, _≤_}
 use lib.ListN.{length, drop}
 use borrow.Author.Needs.{needs}
 use Rattle.laws.specs.Tabulate.{length-tabulate}
-use Rattle.language.specs.declared.Answer.{Answer}
-use Rattle.language.specs.declared.Answer.the-variants.{Done}
+use Rattle.refusals.specs.declared.Answer.{Answer}
+use Rattle.refusals.specs.declared.Answer.the-variants.{Done}
 use Rattle.language.specs.Words.{grammarOf}
 use Rattle.language.specs.Checks.{Passed, checkWords, words-pass}
 use Rattle.language.specs.Conflicts.{conflictStage}

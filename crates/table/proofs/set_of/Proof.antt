@@ -3,7 +3,7 @@ use mathlib.Core.Path.{_≡_, sym, _∙_}
 use Prim.Native.Nat.{_<_}
 use native.Mathlib.Omega.{arith}
 use borrow.Author.Needs.{needs}
-use Rattle.language.specs.declared.Answer.the-variants.{Done}
+use Rattle.refusals.specs.declared.Answer.the-variants.{Done}
 use Rattle.language.specs.Words.{countN, grammarOf}
 use Rattle.language.specs.Checks.{Passed, checkWords, words-pass}
 use Rattle.language.specs.SetMasks.{left-ones}

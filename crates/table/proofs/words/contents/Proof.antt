@@ -6,7 +6,7 @@ use mathlib.Core.Path.{_≡_, refl, sym, _∙_}
 use native.Mathlib.Omega.{arith}
 use lib.Dec.{leb}
 use lib.ListN.{length}
-use Rattle.language.specs.declared.Refusal.the-variants.{Contents}
+use Rattle.refusals.specs.declared.Refusal.the-variants.{Contents}
 use Rattle.laws.specs.Tests.{ne-eqb, leb-false}
 use Rattle.language.specs.CheckContents.{wrongEntry, badContents}
 use Rattle.language.specs.Words.{countR}

@@ -3,7 +3,7 @@ use Prim.Native.Nat.{_-_, _≤_}
 use mathlib.Core.Path.{sym, _∙_}
 use native.Mathlib.Omega.{arith}
 use lib.ListN.{length}
-use Rattle.language.specs.declared.Refusal.the-variants.{Form}
+use Rattle.refusals.specs.declared.Refusal.the-variants.{Form}
 use Rattle.language.specs.CheckForm.{badForm}
 use Rattle.language.specs.Words.{grammarOf}
 use Rattle.language.specs.WordsInRange.{rules-count}

@@ -3,7 +3,7 @@ use Prim.Native.Nat.{_≤_, _-_}
 use mathlib.Core.Path.{sym, _∙_}
 use native.Mathlib.Omega.{arith}
 use borrow.Author.Needs.{needs}
-use Rattle.language.specs.declared.Refusal.the-variants.{Head}
+use Rattle.refusals.specs.declared.Refusal.the-variants.{Head}
 use Rattle.language.specs.CheckHead.{badHead}
 use Rattle.table.specs.Search.{Clear, clear-none, clear-more, found-at, found-nowhere}
 use Rattle.table.proofs.words.head.Statement.{statement}

@@ -4,7 +4,7 @@ use mathlib.Core.Path.{sym, _∙_}
 use mathlib.Core.Logic.{⊎-elim}
 use native.Mathlib.Omega.{arith}
 use lib.ListN.{length}
-use Rattle.language.specs.declared.Refusal.the-variants.{Symbol}
+use Rattle.refusals.specs.declared.Refusal.the-variants.{Symbol}
 use Rattle.language.specs.CheckSymbols.{badSymbol}
 use Rattle.language.specs.Words.{countR, entry, bodyEnd}
 use Rattle.table.specs.Laid.{short}

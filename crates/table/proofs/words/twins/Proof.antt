@@ -3,7 +3,7 @@ use Prim.Native.Nat.{_-_, _≤_}
 use mathlib.Core.Path.{sym, _∙_}
 use native.Mathlib.Omega.{arith}
 use lib.ListN.{length}
-use Rattle.language.specs.declared.Refusal.the-variants.{Twin}
+use Rattle.refusals.specs.declared.Refusal.the-variants.{Twin}
 use Rattle.laws.specs.Tests.{lt-ltb, le-ltb}
 use Rattle.language.specs.CheckTwins.{badTwin}
 use Rattle.language.specs.Words.{grammarOf}

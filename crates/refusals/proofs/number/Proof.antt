@@ -1,10 +1,10 @@
--- `language::number` meets its contract: each case of the match gives what the definition says of that case.
+-- `refusals::number` meets its contract: each case of the match gives what the definition says of that case.
 -- Assumes nothing.
 use borrow.Author.Needs.{needs}
-use Rattle.language.proofs.number.Statement.{statement}
-use Rattle.language.proofs.number.Tie as tie
-use Rattle.language.proofs.number.Reads as reads
-use Rattle.language.proofs.number.Lts as lts
+use Rattle.refusals.proofs.number.Statement.{statement}
+use Rattle.refusals.proofs.number.Tie as tie
+use Rattle.refusals.proofs.number.Reads as reads
+use Rattle.refusals.proofs.number.Lts as lts
 
 -- src/lib.rt:42:29
 enum-told : tie.Need-enum-told

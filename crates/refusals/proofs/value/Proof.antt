@@ -1,10 +1,10 @@
--- `language::value` meets its contract: each case of the match gives what the definition says of that case.
+-- `refusals::value` meets its contract: each case of the match gives what the definition says of that case.
 -- Assumes nothing.
 use borrow.Author.Needs.{needs}
-use Rattle.language.proofs.value.Statement.{statement}
-use Rattle.language.proofs.value.Tie as tie
-use Rattle.language.proofs.value.Reads as reads
-use Rattle.language.proofs.value.Lts as lts
+use Rattle.refusals.proofs.value.Statement.{statement}
+use Rattle.refusals.proofs.value.Tie as tie
+use Rattle.refusals.proofs.value.Reads as reads
+use Rattle.refusals.proofs.value.Lts as lts
 
 -- src/lib.rt:71:23
 enum-known-refusal : tie.Need-enum-known-refusal

@@ -8,17 +8,17 @@ use Prim.Native.Nat.{ℕ, zero, suc, _<_}
 use native.Mathlib.Omega.{arith}
 use lib.Dec.{lit<}
 use lib.ListN.{length, getD}
-use Rattle.language.specs.declared.Refusal.{Refusal}
-use Rattle.language.specs.declared.Refusal.the-variants.{Head, Contents, Symbol, Form, Twin, Conflict, Empty, TooLong, BadToken, BadCut, NoRoom, NoChunk, AtRest, NoJoin}
-use Rattle.language.specs.declared.Refusal.the-variants.{BadState, Unfinished, NoRelation, NoRule, NotAxiom, SideBySide, NoNonterminal}
-use Rattle.language.specs.declared.Answer.{Answer}
-use Rattle.language.specs.declared.Answer.the-variants.{Done, Refused}
-use Rattle.language.specs.declared.SetAnswer.{SetAnswer}
-use Rattle.language.specs.declared.SetAnswer.the-variants as set
-use Rattle.language.specs.declared.RunAnswer.{RunAnswer}
-use Rattle.language.specs.declared.RunAnswer.the-variants as run
-use Rattle.language.specs.declared.ReportAnswer.{ReportAnswer}
-use Rattle.language.specs.declared.ReportAnswer.the-variants as report
+use Rattle.refusals.specs.declared.Refusal.{Refusal}
+use Rattle.refusals.specs.declared.Refusal.the-variants.{Head, Contents, Symbol, Form, Twin, Conflict, Empty, TooLong, BadToken, BadCut, NoRoom, NoChunk, AtRest, NoJoin}
+use Rattle.refusals.specs.declared.Refusal.the-variants.{BadState, Unfinished, NoRelation, NoRule, NotAxiom, SideBySide, NoNonterminal}
+use Rattle.refusals.specs.declared.Answer.{Answer}
+use Rattle.refusals.specs.declared.Answer.the-variants.{Done, Refused}
+use Rattle.refusals.specs.declared.SetAnswer.{SetAnswer}
+use Rattle.refusals.specs.declared.SetAnswer.the-variants as set
+use Rattle.refusals.specs.declared.RunAnswer.{RunAnswer}
+use Rattle.refusals.specs.declared.RunAnswer.the-variants as run
+use Rattle.refusals.specs.declared.ReportAnswer.{ReportAnswer}
+use Rattle.refusals.specs.declared.ReportAnswer.the-variants as report
 
 -- the column "No."
 abbrev pub numberOf : Refusal → ℕ
