@@ -1,5 +1,6 @@
 pub mod Clearing
 pub mod Comparing
+pub mod Hands
 pub mod ParseSteps
 pub mod Ready
 pub mod Searches

@@ -1,7 +1,7 @@
 -- The first five words and the length stay while a move's other words are stored: so the move can be counted at the end.
 -- Rests on MoveWords.
 --
--- Main statements: put-ready, stick-ready, ended-ready, one-ready, replaced-roomy, reduce-ready.
+-- Main statements: put-ready, stick-ready, ended-ready, one-ready, over-before, over-length, replaced-roomy, reduce-ready.
 use Prim.Native.Nat.{ℕ, zero, suc, _+_, _*_, _-_, _<_, _≤_}
 use mathlib.Core.Path.{_≡_, _∙_}
 use mathlib.Core.List.{List, _++_}
@@ -9,39 +9,44 @@ use native.Mathlib.Omega.{arith}
 use lib.ListN.{length, getD, take, drop, set, length-set, length-append, length-replicate, length-take, length-drop, List·getD-append}
 use lib.Seq.{getD-set-other, getD-take}
 use Rattle.area.specs.Layout.{zeros, tableAt, slotWord, madeAtWord}
-use Rattle.reader.specs.MoveWords.{fromOf, headOf, endOf, marksOf, slotAt, putWords, endedWords, unmarkWords, goneWords, oneWords, clearedWords, laidWords, notedWords, replacedWords, Ticks, Pushable, Stickable, Acceptable, Joinable, Roomy, Reducible}
+use Rattle.reader.specs.MoveWords.{fromOf, headOf, endOf, marksOf, slotAt, putWords, endedWords, unmarkWords, goneWords, oneWords, clearedWords, laidWords, overWords, notedWords, replacedWords, Ticks, Roomy, Reducible}
 
 -- a store past word 3
-pub ticks-set : (area : List ℕ) (i v : ℕ) → 3 < i → Ticks area → Ticks (set area i v)
-ticks-set area i v h t = record { long = simp length-set (t .long); few = rw (getD-set-other area i 3 v 0 (omega arith)) (t .few) }
+pub ticks-set : (area : List ℕ) (i v : ℕ) {moves : ℕ} → 3 < i → Ticks area moves → Ticks (set area i v) moves
+ticks-set area i v h t = record {
+  long = simp length-set (t .long);
+  low = rw (getD-set-other area i 2 v 0 (omega arith)) (t .low);
+  few = rw (getD-set-other area i 3 v 0 (omega arith)) (t .few);
+  count = rw (getD-set-other area i 2 v 0 (omega arith), getD-set-other area i 3 v 0 (omega arith)) (t .count);
+}
 
-pub put-ready : (area : List ℕ) (c mark : ℕ) → Pushable area c mark → Ticks (putWords area c mark)
+pub put-ready : (area : List ℕ) (c mark moves : ℕ) → Ticks area moves → Ticks (putWords area c mark) moves
 unfolding putWords
-put-ready area c mark h =
+put-ready area c mark moves t =
     ticks-set _ (tableAt c 4) (marksOf area c + mark) (omega arith)
     (ticks-set _ (tableAt c 2) (headOf area c + slotWord area (headOf area c) 2) (omega arith)
-    (ticks-set area (slotAt area (headOf area c) + 1) mark (omega arith) (record { long = omega arith; few = h .few })))
+    (ticks-set area (slotAt area (headOf area c) + 1) mark (omega arith) t))
 
-pub stick-ready : (area : List ℕ) (c status : ℕ) → Stickable area c → Ticks (set area (tableAt c 0) status)
-stick-ready area c status h = ticks-set area (tableAt c 0) status (omega arith) (record { long = omega arith; few = h .few })
+pub stick-ready : (area : List ℕ) (c status moves : ℕ) → Ticks area moves → Ticks (set area (tableAt c 0) status) moves
+stick-ready area c status moves t = ticks-set area (tableAt c 0) status (omega arith) t
 
-pub ended-ready : (area : List ℕ) (c : ℕ) → Acceptable area c → Ticks (endedWords area c)
+pub ended-ready : (area : List ℕ) (c moves : ℕ) → Ticks area moves → Ticks (endedWords area c) moves
 unfolding endedWords
-ended-ready area c h =
+ended-ready area c moves t =
     let last : ℕ = slotAt area (endOf area c - 1) in
     ticks-set _ (tableAt c 3) (endOf area c - 1) (omega arith)
     (ticks-set _ (last + 3) 0 (omega arith)
     (ticks-set _ (last + 2) 0 (omega arith)
     (ticks-set _ (last + 1) 0 (omega arith)
-    (ticks-set area (last + 0) 0 (omega arith) (record { long = omega arith; few = h .few })))))
+    (ticks-set area (last + 0) 0 (omega arith) t))))
 
 -- ---- a join
 
-unmark-ready : (area : List ℕ) (at count : ℕ) → 3 < at → Ticks area → Ticks (unmarkWords area at count)
+unmark-ready : (area : List ℕ) (at count : ℕ) {moves : ℕ} → 3 < at → Ticks area moves → Ticks (unmarkWords area at count) moves
 unmark-ready area at zero h t = t
 unmark-ready area at (suc count) h t = unmark-ready (set area at 0) (at + 4) count (omega arith) (ticks-set area at 0 h t)
 
-gone-ready : (area : List ℕ) (d : ℕ) → Ticks area → Ticks (goneWords area d)
+gone-ready : (area : List ℕ) (d : ℕ) {moves : ℕ} → Ticks area moves → Ticks (goneWords area d) moves
 unfolding goneWords
 gone-ready area d t =
     ticks-set _ (tableAt d 4) 0 (omega arith)
@@ -50,20 +55,20 @@ gone-ready area d t =
     (ticks-set _ (tableAt d 1) 0 (omega arith)
     (ticks-set area (tableAt d 0) 0 (omega arith) t))))
 
-pub one-ready : (area : List ℕ) (c d : ℕ) → Joinable area c d → Ticks (oneWords area c d)
+pub one-ready : (area : List ℕ) (c d moves : ℕ) → Ticks area moves → Ticks (oneWords area c d) moves
 unfolding oneWords
-one-ready area c d h =
+one-ready area c d moves t =
     gone-ready _ d
     (ticks-set _ (tableAt c 3) (endOf area d) (omega arith)
-    (unmark-ready area (slotAt area (fromOf area d) + 1) (headOf area d - fromOf area d) (omega arith) (record { long = omega arith; few = h .few })))
+    (unmark-ready area (slotAt area (fromOf area d) + 1) (headOf area d - fromOf area d) (omega arith) t))
 
 -- ---- a reduction
 
-cleared-length : (area : List ℕ) (i count : ℕ) → i + count ≤ length area → length (clearedWords area i count) ≡ length area
+pub cleared-length : (area : List ℕ) (i count : ℕ) → i + count ≤ length area → length (clearedWords area i count) ≡ length area
 unfolding clearedWords
 cleared-length area i count h = simp (length-append, length-replicate, length-take, length-drop) (omega arith)
 
-cleared-before : (area : List ℕ) (i count j : ℕ) → j < i → i ≤ length area → getD (clearedWords area i count) j 0 ≡ getD area j 0
+pub cleared-before : (area : List ℕ) (i count j : ℕ) → j < i → i ≤ length area → getD (clearedWords area i count) j 0 ≡ getD area j 0
 unfolding clearedWords
 cleared-before area i count j h l =
     List·getD-append (take i area) (zeros count ++ drop (i + count) area) 0 j (omega (arith, length-take i area)) ∙ getD-take i area j 0 h
@@ -74,7 +79,18 @@ laid-before area i symbol size j h l =
     getD-set-other (set (set area i symbol) (i + 2) size) (i + 4 * size - 1) j size 0 (omega arith)
     ∙ getD-set-other (set area i symbol) (i + 2) j size 0 (omega arith) ∙ getD-set-other area i j symbol 0 (omega arith)
 
-noted-ready : (area : List ℕ) (rule first after : ℕ) → Ticks area → Ticks (notedWords area rule first after)
+pub over-before : (area : List ℕ) (from head symbol j : ℕ) → j < slotAt area from → from < head → slotAt area from ≤ length area
+    → getD (overWords area from head symbol) j 0 ≡ getD area j 0
+over-before area from head symbol j h l r =
+    laid-before (clearedWords area (slotAt area from) (slotAt area head - slotAt area from)) (slotAt area from) symbol (head - from) j h (omega arith)
+    ∙ cleared-before area (slotAt area from) (slotAt area head - slotAt area from) j h r
+
+pub over-length : (area : List ℕ) (from head symbol : ℕ) → slotAt area from + (slotAt area head - slotAt area from) ≤ length area
+    → length (overWords area from head symbol) ≡ length area
+unfolding laidWords
+over-length area from head symbol r = simp length-set (cleared-length area (slotAt area from) (slotAt area head - slotAt area from) r)
+
+noted-ready : (area : List ℕ) (rule first after : ℕ) {moves : ℕ} → Ticks area moves → Ticks (notedWords area rule first after) moves
 unfolding notedWords
 noted-ready area rule first after t =
     let at : ℕ = madeAtWord area + 3 * getD area 4 0 in
@@ -84,26 +100,18 @@ noted-ready area rule first after t =
     (ticks-set area at rule (omega arith) t)))
 
 module _ (area : List ℕ) (c from symbol : ℕ) (h : Reducible area c from) where
-  abbrev i : ℕ
-  i = slotAt area from
-
-  abbrev count : ℕ
-  count = slotAt area (headOf area c) - slotAt area from
-
-  inside : i + count ≤ length area
+  inside : slotAt area from + (slotAt area (headOf area c) - slotAt area from) ≤ length area
   inside = omega (arith, h .top, h .room .room, h .some)
 
-  replaced-before : (j : ℕ) → j < 5 → getD (replacedWords area c from symbol) j 0 ≡ getD area j 0
+  pub replaced-before : (j : ℕ) → j < 5 → getD (replacedWords area c from symbol) j 0 ≡ getD area j 0
   unfolding replacedWords
   replaced-before j l =
-      let size : ℕ = headOf area c - from in
-      getD-set-other (laidWords (clearedWords area i count) i symbol size) (tableAt c 4) j (marksOf area c - 1) 0 (omega arith)
-      ∙ laid-before (clearedWords area i count) i symbol size j (omega arith) (omega (arith, h .some))
-      ∙ cleared-before area i count j (omega arith) (omega (arith, inside))
+      getD-set-other (overWords area from (headOf area c) symbol) (tableAt c 4) j (marksOf area c - 1) 0 (omega arith)
+      ∙ over-before area from (headOf area c) symbol j (omega arith) (h .some) (omega (arith, inside))
 
   replaced-length : length (replacedWords area c from symbol) ≡ length area
-  unfolding replacedWords laidWords
-  replaced-length = simp length-set (cleared-length area i count inside)
+  unfolding replacedWords
+  replaced-length = simp length-set (over-length area from (headOf area c) symbol inside)
 
   -- the reduction can be noted
   pub replaced-roomy : Roomy (replacedWords area c from symbol)
@@ -113,7 +121,12 @@ module _ (area : List ℕ) (c from symbol : ℕ) (h : Reducible area c from) whe
   }
 
   -- and the move counted
-  pub reduce-ready : (rule first after : ℕ) → Ticks (notedWords (replacedWords area c from symbol) rule first after)
-  reduce-ready rule first after =
+  pub reduce-ready : (moves : ℕ) → Ticks area moves → (rule first after : ℕ) → Ticks (notedWords (replacedWords area c from symbol) rule first after) moves
+  reduce-ready moves t rule first after =
       noted-ready (replacedWords area c from symbol) rule first after
-      (record { long = rw replaced-length (omega (arith, h .room .room)); few = rw (replaced-before 3 (omega arith)) (h .few) })
+      (record {
+        long = rw replaced-length (t .long);
+        low = rw (replaced-before 2 (omega arith)) (t .low);
+        few = rw (replaced-before 3 (omega arith)) (t .few);
+        count = rw (replaced-before 2 (omega arith), replaced-before 3 (omega arith)) (t .count);
+      })

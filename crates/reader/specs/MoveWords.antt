@@ -39,10 +39,12 @@ slotAt area s = slotsAt area + 4 * s
 unfoldable pub tickWords : List ℕ → List ℕ
 tickWords area = set (set area 2 ((movesIn area + 1) % 65536)) 3 ((movesIn area + 1) / 65536)
 
--- a move more can be counted
-pub record Ticks (area : List ℕ) : Type 0 where
+-- a move more than this many can be counted
+pub record Ticks (area : List ℕ) (moves : ℕ) : Type 0 where
   pub long : 5 ≤ length area
+  pub low : getD area 2 0 < 65536
   pub few : getD area 3 0 < 65535
+  pub count : moves ≡ movesIn area
 
 -- ---- a symbol is put on a stack
 
@@ -160,6 +162,11 @@ clearedWords area i count = take i area ++ (zeros count ++ drop (i + count) area
 unfoldable pub laidWords : List ℕ → ℕ → ℕ → ℕ → List ℕ
 laidWords area i symbol size = set (set (set area i symbol) (i + 2) size) (i + 4 * size - 1) size
 
+-- .. over the slots from `from` up to `head`, their symbols cleared
+abbrev pub overWords : List ℕ → ℕ → ℕ → ℕ → List ℕ
+overWords area from head symbol =
+    laidWords (clearedWords area (slotAt area from) (slotAt area head - slotAt area from)) (slotAt area from) symbol (head - from)
+
 -- a reduction more, after those made before it: rule, first place, place after the last
 unfoldable pub notedWords : List ℕ → ℕ → ℕ → ℕ → List ℕ
 notedWords area rule first after =
@@ -173,9 +180,7 @@ pub record Roomy (area : List ℕ) : Type 0 where
 
 -- the symbols of chunk c's stack from slot `from` up are one symbol, and a mark is gone; the reduction not noted, the move not counted
 unfoldable pub replacedWords : List ℕ → ℕ → ℕ → ℕ → List ℕ
-replacedWords area c from symbol =
-    set (laidWords (clearedWords area (slotAt area from) (slotAt area (headOf area c) - slotAt area from)) (slotAt area from) symbol (headOf area c - from))
-    (tableAt c 4) (marksOf area c - 1)
+replacedWords area c from symbol = set (overWords area from (headOf area c) symbol) (tableAt c 4) (marksOf area c - 1)
 
 -- "replace it by the left side of the least such rule, b staying unread": slot s is place s-1
 unfoldable pub reduceWords : List ℕ → ℕ → ℕ → ℕ → ℕ → List ℕ

@@ -1,6 +1,7 @@
 // The checks of a call; one move of a chunk, by document 01's rules 1 to 6: the tests of the words in their order, which end in the move
 // that they call for, and that move made; and the moves of a run.
 use crate::moves;
+use crate::moves::Hand;
 use crate::moves::Matched;
 use crate::moves::Next;
 use crate::moves::Top;
@@ -8,13 +9,15 @@ use refusals::Answer;
 use refusals::Refusal;
 ghost use mathlib.Core.Path.{_≡_};
 ghost use Prim.Native.Nat.{_+_, _*_, _≤_, _<_};
+ghost use lib.Dec.{eqb};
 ghost use lib.ListN.{length, getD};
 ghost use Rattle.language.specs.Words.{countR, entry, word};
 ghost use Rattle.area.specs.Layout.{slotsAt};
 ghost use Rattle.reader.specs.OneMove.{Movable};
 ghost use Rattle.reader.specs.RunMoves.{ReadyIs, Runnable, RanWords};
 ghost use Rattle.reader.specs.JoinCalls.{RightIs};
-ghost use Rattle.reader.specs.Moved.{Moved, CallsFor, Facing, Compared, Takes, HasLeft, liveIn, restsIn};
+ghost use Rattle.reader.specs.Moved.{Moved, CallsFor, Facing, Compared, Takes, HasLeft, liveIn, restsBy, restsIn};
+ghost use Rattle.reader.specs.AtHand.{AtHand};
 
 // The move that a chunk's words call for: its next symbol put on its stack with this mark (0 or 1); stuck with 17 to 20; the # of the end
 // read; the handle from this slot up replaced by this left side of this rule.
@@ -42,15 +45,22 @@ fn is_live(area: &[u16], c: usize) -> bool
     0 < moves::row_word(area, c, 0)
 }
 
+// Whether a live chunk is at rest: it is stuck, or nothing is unread.
+fn resting(hand: Hand) -> bool
+    ensures { λ r. ⌜ r ≡ restsBy (eqb (hand .status) 1) (hand .end) (hand .head) ⌝ }
+{
+    if hand.status != 1 {
+        return true;
+    }
+    hand.end <= hand.head
+}
+
 // Whether chunk c, a live one, is at rest.
 fn at_rest(area: &[u16], c: usize) -> bool
     requires { ⌜ (c < getD (now area) 1 0) × (slotsAt (now area) ≤ length (now area)) ⌝ }
     ensures { λ r. ⌜ r ≡ restsIn (now (area .entry)) c ⌝ }
 {
-    if moves::row_word(area, c, 0) != 1 {
-        return true;
-    }
-    moves::row_word(area, c, 3) <= moves::row_word(area, c, 2)
+    resting(moves::hand_of(area, c))
 }
 
 // Whether chunk c can move: checks 15, 12 and 13.
@@ -97,15 +107,15 @@ fn left_word(words: &[u16], r: u16) -> u16
 
 // Rules 5 and 6: the topmost terminal takes over the next symbol. Where the stack has a mark, the handle is replaced by the left side of
 // the least rule that has it, or the chunk is stuck with 18.
-fn takes(words: &[u16], matrix: &[u8], area: &[u16], c: usize) -> Move
-    requires { ⌜ Takes (now words) (now matrix) (now area) c ⌝ }
+fn takes(words: &[u16], matrix: &[u8], area: &[u16], c: usize, hand: Hand) -> Move
+    requires { ⌜ Takes (now words) (now matrix) (now area) c × AtHand (now area) c hand ⌝ }
     ensures { λ r. ⌜ CallsFor (now (words .entry)) (now (matrix .entry)) (now (area .entry)) c r ⌝ }
 {
-    if moves::row_word(area, c, 4) == 0 {
+    if hand.marks == 0 {
         return Move::Push(0);
     }
-    let head = moves::row_word(area, c, 2);
-    let start = moves::find_mark(area, moves::row_word(area, c, 1), head);
+    let head = hand.head as usize;
+    let start = moves::find_mark(area, hand.from as usize, head);
     if let Matched::Rule(r) = moves::match_rule(words, area, start, head) {
         return Move::Reduce(start as u16, left_word(words, r), r);
     }
@@ -113,27 +123,22 @@ fn takes(words: &[u16], matrix: &[u8], area: &[u16], c: usize) -> Move
 }
 
 // Rule 4: the topmost terminal a is equal to the next symbol b. For # over # it is the last move, or the chunk is stuck with 19.
-fn equals(words: &[u16], matrix: &[u8], area: &[u16], c: usize, a: u16, b: u16) -> Move
-    requires { ⌜ Compared (now words) (now matrix) (now area) c a b 2 ⌝ }
+fn equals(words: &[u16], matrix: &[u8], area: &[u16], c: usize, hand: Hand, a: u16, b: u16) -> Move
+    requires { ⌜ Compared (now words) (now matrix) (now area) c a b 2 × AtHand (now area) c hand ⌝ }
     ensures { λ r. ⌜ CallsFor (now (words .entry)) (now (matrix .entry)) (now (area .entry)) c r ⌝ }
 {
     if (0 < a) | (0 < b) {
         return Move::Push(0);
     }
-    if moves::end_and_axiom(
-        area,
-        moves::row_word(area, c, 1),
-        moves::row_word(area, c, 2),
-        words[2],
-    ) {
+    if moves::end_and_axiom(area, hand.from as usize, hand.head as usize, words[2]) {
         return Move::Accept;
     }
     Move::Stick(19)
 }
 
 // Rules 3 to 6: a is the topmost terminal and b the next symbol.
-fn related(words: &[u16], matrix: &[u8], area: &[u16], c: usize, a: u16, b: u16) -> Move
-    requires { ⌜ Facing (now words) (now matrix) (now area) c a b ⌝ }
+fn related(words: &[u16], matrix: &[u8], area: &[u16], c: usize, hand: Hand, a: u16, b: u16) -> Move
+    requires { ⌜ Facing (now words) (now matrix) (now area) c a b × AtHand (now area) c hand ⌝ }
     ensures { λ r. ⌜ CallsFor (now (words .entry)) (now (matrix .entry)) (now (area .entry)) c r ⌝ }
 {
     let byte = matrix[64 * (a as usize) + b as usize];
@@ -141,21 +146,21 @@ fn related(words: &[u16], matrix: &[u8], area: &[u16], c: usize, a: u16, b: u16)
         return Move::Push(1);
     }
     if byte == 2 {
-        return equals(words, matrix, area, c, a, b);
+        return equals(words, matrix, area, c, hand, a, b);
     }
     if byte == 3 {
-        return takes(words, matrix, area, c);
+        return takes(words, matrix, area, c, hand);
     }
     Move::Stick(17)
 }
 
 // The move of chunk c, a live one that is not at rest: rules 1 and 2 here, the others where the stack has a terminal.
-fn next_move(words: &[u16], matrix: &[u8], area: &[u16], c: usize) -> Move
-    requires { ⌜ Movable (now words) (now matrix) (now area) c ⌝ }
+fn next_move(words: &[u16], matrix: &[u8], area: &[u16], c: usize, hand: Hand) -> Move
+    requires { ⌜ Movable (now words) (now matrix) (now area) c × AtHand (now area) c hand ⌝ }
     ensures { λ r. ⌜ CallsFor (now (words .entry)) (now (matrix .entry)) (now (area .entry)) c r ⌝ }
 {
-    let from = moves::row_word(area, c, 1);
-    let head = moves::row_word(area, c, 2);
+    let from = hand.from as usize;
+    let head = hand.head as usize;
     let b = moves::slot_word(area, head, 0);
     if 256 <= b {
         if moves::nonterminal_on_top(area, from, head) {
@@ -164,22 +169,23 @@ fn next_move(words: &[u16], matrix: &[u8], area: &[u16], c: usize) -> Move
         return Move::Push(0);
     }
     if let Top::Terminal(a) = moves::top_terminal(area, from, head) {
-        return related(words, matrix, area, c, a, b);
+        return related(words, matrix, area, c, hand, a, b);
     }
     Move::Push(0)
 }
 
-// One move of chunk c, a live one that is not at rest.
-pub fn make_move(words: &[u16], matrix: &[u8], area: &mut [u16], c: usize)
-    requires { ⌜ Movable (now words) (now matrix) (now area) c ⌝ }
+// One move of chunk c, a live one that is not at rest; what is at hand after it.
+pub fn make_move(words: &[u16], matrix: &[u8], area: &mut [u16], c: usize, hand: Hand) -> Hand
+    requires { ⌜ Movable (now words) (now matrix) (now area) c × AtHand (now area) c hand ⌝ }
     ensures { λ _. ⌜ Moved (now (words .entry)) (now (matrix .entry)) (now (area .entry)) c (now (area .exit)) ⌝ }
+    ensures { λ r. ⌜ AtHand (now (area .exit)) c r ⌝ }
 {
-    let next = next_move(words, matrix, area, c);
+    let next = next_move(words, matrix, area, c, hand);
     match next {
-        Move::Push(mark) => moves::push(area, c, mark),
-        Move::Stick(status) => moves::stick(area, c, status),
-        Move::Accept => moves::accept(area, c),
-        Move::Reduce(from, symbol, rule) => moves::reduce(area, c, from, symbol, rule),
+        Move::Push(mark) => moves::push(area, c, hand, mark),
+        Move::Stick(status) => moves::stick(area, c, hand, status),
+        Move::Accept => moves::accept(area, c, hand),
+        Move::Reduce(from, symbol, rule) => moves::reduce(area, c, hand, from, symbol, rule),
     }
 }
 
@@ -188,12 +194,13 @@ pub fn make_moves(words: &[u16], matrix: &[u8], area: &mut [u16], c: usize, budg
     requires { ⌜ Runnable (now words) (now matrix) (now area) c ⌝ }
     ensures { λ made. ⌜ RanWords (now (words .entry)) (now (matrix .entry)) (now (area .entry)) c budget made (now (area .exit)) ⌝ }
 {
+    let mut hand = moves::hand_of(area, c);
     let mut made: u32 = 0;
     while made < budget {
-        if at_rest(area, c) {
+        if resting(hand) {
             return made;
         }
-        make_move(words, matrix, area, c);
+        hand = make_move(words, matrix, area, c, hand);
         made += 1;
     }
     made

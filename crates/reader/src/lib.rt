@@ -20,7 +20,8 @@ pub fn step(words: &[u16], matrix: &[u8], area: &mut [u16], chunk: usize) -> Ans
     if let Answer::Refused(refusal) = calls::ready(words, matrix, area, chunk) {
         return Answer::Refused(refusal);
     }
-    calls::make_move(words, matrix, area, chunk);
+    let hand = moves::hand_of(area, chunk);
+    calls::make_move(words, matrix, area, chunk, hand);
     Answer::Done
 }
 

@@ -1,13 +1,15 @@
 // The moves of a chunk and the join of two, on the words of a lent work area; and what a move reads of these words.
 // Each function that writes leaves exactly the words that a definition of specs/MoveWords.antt names. No symbol moves.
+// What a run needs again at each move goes by value from move to move beside the area (`Hand`), which holds the same.
 ghost use mathlib.Core.Path.{_≡_};
 ghost use Prim.Native.Nat.{_+_, _*_, _-_, _≤_, _<_};
 ghost use lib.ListN.{length, getD};
 ghost use Rattle.area.specs.Layout.{slotsAt, slotWord, tableAt, rowWord, movesIn};
 ghost use Rattle.reader.specs.MoveWords.{tickWords, pushWords, stickWords, acceptWords, unmarkWords, joinWords};
-ghost use Rattle.reader.specs.MoveWords.{startOf, clearedOne, clearedWords, laidWords, notedWords, reduceWords};
+ghost use Rattle.reader.specs.MoveWords.{startOf, clearedOne, clearedWords, laidWords, overWords, notedWords, reduceWords};
 ghost use Rattle.reader.specs.MoveWords.{Ticks, Pushable, Stickable, Acceptable, Joinable, Tagged, Laid, Roomy, Reducible};
 ghost use Rattle.reader.specs.MoveWords.{slotAt};
+ghost use Rattle.reader.specs.AtHand.{AtHand};
 ghost use Rattle.reader.specs.ReadWords.{Stacked, EndsBlock, startSlot, TopIs, NonterminalOnTop, EndAndAxiom, BelowMark, HandleStarts, nextOf, liveAfter};
 ghost use Rattle.reader.specs.MatchWords.{Readable, Whole, handleWords, matchWords, matchedOf};
 ghost use Rattle.language.specs.Words.{countR, entry, bodyEnd};
@@ -29,11 +31,11 @@ pub fn slot_word(area: &[u16], s: usize, k: usize) -> u16
 }
 
 // Word k of chunk c's row of the table.
-pub fn row_word(area: &[u16], c: usize, k: usize) -> usize
+pub fn row_word(area: &[u16], c: usize, k: usize) -> u16
     requires { ⌜ tableAt c k < length (now area) ⌝ }
     ensures { λ r. ⌜ r ≡ rowWord (now (area .entry)) c k ⌝ }
 {
-    area[5 + 5 * c + k] as usize
+    area[5 + 5 * c + k]
 }
 
 // The count of moves, which stands in two words.
@@ -44,40 +46,70 @@ pub fn moves_of(area: &[u16]) -> u32
     (area[2] as u32) + 65536 * (area[3] as u32)
 }
 
-// One move more.
-pub fn tick(area: &mut [u16])
-    requires { ⌜ Ticks (now area) ⌝ }
-    ensures { λ _. ⌜ now (area .exit) ≡ tickWords (now (area .entry)) ⌝ }
+// What a run has at hand of its chunk: the chunk's row of the table, and the counts of reductions and of moves. The area holds the same.
+pub struct Hand {
+    pub status: u16,
+    pub from: u16,
+    pub head: u16,
+    pub end: u16,
+    pub marks: u16,
+    pub reductions: u16,
+    pub moves: u32,
+}
+
+// What the area holds of chunk c.
+pub fn hand_of(area: &[u16], c: usize) -> Hand
+    requires { ⌜ (c < getD (now area) 1 0) × (slotsAt (now area) ≤ length (now area)) ⌝ }
+    ensures { λ r. ⌜ AtHand (now (area .entry)) c r ⌝ }
 {
-    let moves = moves_of(area) + 1;
-    area[2] = (moves % 65536) as u16;
-    area[3] = (moves / 65536) as u16;
+    Hand {
+        status: row_word(area, c, 0),
+        from: row_word(area, c, 1),
+        head: row_word(area, c, 2),
+        end: row_word(area, c, 3),
+        marks: row_word(area, c, 4),
+        reductions: area[4],
+        moves: moves_of(area),
+    }
+}
+
+// One move more than the `moves` until now; how many that makes.
+pub fn tick(area: &mut [u16], moves: u32) -> u32
+    requires { ⌜ Ticks (now area) moves ⌝ }
+    ensures { λ r. ⌜ (r ≡ moves + 1) × (now (area .exit) ≡ tickWords (now (area .entry))) ⌝ }
+{
+    let more = moves + 1;
+    area[2] = (more % 65536) as u16;
+    area[3] = (more / 65536) as u16;
+    more
 }
 
 // Puts chunk c's next unread symbol on its stack, with this mark (0 or 1).
-pub fn push(area: &mut [u16], c: usize, mark: u16)
-    requires { ⌜ Pushable (now area) c mark ⌝ }
-    ensures { λ _. ⌜ now (area .exit) ≡ pushWords (now (area .entry)) c mark ⌝ }
+pub fn push(area: &mut [u16], c: usize, mut hand: Hand, mark: u16) -> Hand
+    requires { ⌜ Pushable (now area) c mark × AtHand (now area) c hand ⌝ }
+    ensures { λ r. ⌜ (now (area .exit) ≡ pushWords (now (area .entry)) c mark) × AtHand (now (area .exit)) c r ⌝ }
 {
     let line = 5 + 5 * c;
-    let head = area[line + 2];
-    let marks = area[line + 4];
+    let head = hand.head;
     let slot = slot_at(area, head as usize);
-    let size = area[slot + 2];
+    hand.head = head + area[slot + 2];
+    hand.marks += mark;
     area[slot + 1] = mark;
-    area[line + 2] = head + size;
-    area[line + 4] = marks + mark;
-    tick(area);
+    area[line + 2] = hand.head;
+    area[line + 4] = hand.marks;
+    hand.moves = tick(area, hand.moves);
+    hand
 }
 
 // Chunk c gets stuck with 17 to 20.
-pub fn stick(area: &mut [u16], c: usize, status: u16)
-    requires { ⌜ Stickable (now area) c ⌝ }
-    ensures { λ _. ⌜ now (area .exit) ≡ stickWords (now (area .entry)) c status ⌝ }
+pub fn stick(area: &mut [u16], c: usize, mut hand: Hand, status: u16) -> Hand
+    requires { ⌜ Stickable (now area) c × AtHand (now area) c hand ⌝ }
+    ensures { λ r. ⌜ (now (area .exit) ≡ stickWords (now (area .entry)) c status) × AtHand (now (area .exit)) c r ⌝ }
 {
-    let line = 5 + 5 * c;
-    area[line + 0] = status;
-    tick(area);
+    hand.status = status;
+    area[5 + 5 * c + 0] = status;
+    hand.moves = tick(area, hand.moves);
+    hand
 }
 
 // Puts 0 at `count` words, the first at `at`.
@@ -93,16 +125,17 @@ pub fn zero(area: &mut [u16], at: usize, count: usize)
 }
 
 // Chunk c reads the # of the end, its stack unchanged.
-pub fn accept(area: &mut [u16], c: usize)
-    requires { ⌜ Acceptable (now area) c ⌝ }
-    ensures { λ _. ⌜ now (area .exit) ≡ acceptWords (now (area .entry)) c ⌝ }
+pub fn accept(area: &mut [u16], c: usize, mut hand: Hand) -> Hand
+    requires { ⌜ Acceptable (now area) c × AtHand (now area) c hand ⌝ }
+    ensures { λ r. ⌜ (now (area .exit) ≡ acceptWords (now (area .entry)) c) × AtHand (now (area .exit)) c r ⌝ }
 {
-    let line = 5 + 5 * c;
-    let end = area[line + 3];
-    let slot = slot_at(area, (end - 1) as usize);
+    let end = hand.end - 1;
+    let slot = slot_at(area, end as usize);
     zero(area, slot, 4);
-    area[line + 3] = end - 1;
-    tick(area);
+    area[5 + 5 * c + 3] = end;
+    hand.end = end;
+    hand.moves = tick(area, hand.moves);
+    hand
 }
 
 // Puts 0 at `count` words, four apart, the first at `first`.
@@ -124,16 +157,14 @@ pub fn join_chunks(area: &mut [u16], c: usize, d: usize)
     requires { ⌜ Joinable (now area) c d ⌝ }
     ensures { λ _. ⌜ now (area .exit) ≡ joinWords (now (area .entry)) c d ⌝ }
 {
-    let line = 5 + 5 * c;
-    let other = 5 + 5 * d;
-    let from = area[other + 1] as usize;
-    let head = area[other + 2] as usize;
-    let end = area[other + 3];
-    let slot = slot_at(area, from);
-    unmark(area, slot + 1, head - from);
-    area[line + 3] = end;
-    zero(area, other, 5);
-    tick(area);
+    let other = hand_of(area, d);
+    let from = other.from;
+    let head = other.head;
+    let slot = slot_at(area, from as usize);
+    unmark(area, slot + 1, (head - from) as usize);
+    area[5 + 5 * c + 3] = other.end;
+    zero(area, 5 + 5 * d, 5);
+    tick(area, other.moves);
 }
 
 // Clears the block that ends before word `end`, and answers where it starts.
@@ -171,12 +202,11 @@ fn lay(area: &mut [u16], at: usize, symbol: u16, size: u16)
     area[at + 4 * (size as usize) - 1] = size;
 }
 
-// Adds a reduction to those made: rule, first place, place after the last.
-fn note(area: &mut [u16], rule: u16, first: u16, after: u16)
-    requires { ⌜ Roomy (now area) ⌝ }
+// Adds a reduction to the `made` until now: rule, first place, place after the last.
+fn note(area: &mut [u16], made: u16, rule: u16, first: u16, after: u16)
+    requires { ⌜ Roomy (now area) × (made ≡ getD (now area) 4 0) ⌝ }
     ensures { λ _. ⌜ now (area .exit) ≡ notedWords (now (area .entry)) rule first after ⌝ }
 {
-    let made = area[4];
     let end = slot_at(area, (area[0] as usize) + 2);
     let at = end + 3 * (made as usize);
     area[at] = rule;
@@ -185,21 +215,31 @@ fn note(area: &mut [u16], rule: u16, first: u16, after: u16)
     area[4] = made + 1;
 }
 
-// Replaces the handle of chunk c, its stack from slot `from` up, by the left side `symbol` of this rule.
-pub fn reduce(area: &mut [u16], c: usize, from: u16, symbol: u16, rule: u16)
-    requires { ⌜ Reducible (now area) c from ⌝ }
-    ensures { λ _. ⌜ now (area .exit) ≡ reduceWords (now (area .entry)) c from symbol rule ⌝ }
+// Lays one unmarked symbol over the slots from `from` up to `head`, the symbols there cleared.
+fn lay_over(area: &mut [u16], from: u16, head: u16, symbol: u16)
+    requires { ⌜ (from < head) × Laid (now area) (slotAt (now area) from) (slotAt (now area) head) × (slotAt (now area) head ≤ length (now area)) ⌝ }
+    ensures { λ _. ⌜ now (area .exit) ≡ overWords (now (area .entry)) from head symbol ⌝ }
 {
-    let line = 5 + 5 * c;
-    let head = area[line + 2];
-    let marks = area[line + 4];
     let at = slot_at(area, from as usize);
     let to = slot_at(area, head as usize);
     clear(area, at, to);
     lay(area, at, symbol, head - from);
-    area[line + 4] = marks - 1;
-    note(area, rule, from - 1, head - 1);
-    tick(area);
+}
+
+// Replaces the handle of chunk c, its stack from slot `from` up, by the left side `symbol` of this rule.
+pub fn reduce(area: &mut [u16], c: usize, mut hand: Hand, from: u16, symbol: u16, rule: u16) -> Hand
+    requires { ⌜ Reducible (now area) c from × AtHand (now area) c hand ⌝ }
+    ensures { λ r. ⌜ (now (area .exit) ≡ reduceWords (now (area .entry)) c from symbol rule) × AtHand (now (area .exit)) c r ⌝ }
+{
+    let head = hand.head;
+    let made = hand.reductions;
+    hand.marks -= 1;
+    hand.reductions = made + 1;
+    lay_over(area, from, head, symbol);
+    area[5 + 5 * c + 4] = hand.marks;
+    note(area, made, rule, from - 1, head - 1);
+    hand.moves = tick(area, hand.moves);
+    hand
 }
 
 // The topmost terminal of a stack, or that it has none.

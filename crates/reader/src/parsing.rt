@@ -16,7 +16,7 @@ ghost use Rattle.reader.specs.ParseCall.{parseOutcome, parseAnswer, pars
 ghost use Rattle.reader.specs.ParseLaws.{Begun, Finished};
 
 // The refusal of a row stuck with this status at this place.
-fn refusal_of(status: usize, place: u32) -> Refusal
+fn refusal_of(status: u16, place: u32) -> Refusal
     ensures { λ r. ⌜ r ≡ stuckRefusal status place ⌝ }
 {
     if status == 17 {
@@ -49,18 +49,17 @@ fn outcome(area: &[u16], out: &mut [u16]) -> ReportAnswer
     ensures { λ r. ⌜ r ≡ outcomeAnswer (wordsOutcome (now (area .entry))) (length (now (out .entry))) ⌝ }
     ensures { λ _. ⌜ now (out .exit) ≡ outcomeOut (wordsOutcome (now (area .entry))) (now (out .entry)) ⌝ }
 {
-    let status = moves::row_word(area, 0, 0);
-    if 17 <= status {
-        let head = moves::row_word(area, 0, 2);
-        return ReportAnswer::Refused(refusal_of(status, (head - 1) as u32));
+    let hand = moves::hand_of(area, 0);
+    if 17 <= hand.status {
+        return ReportAnswer::Refused(refusal_of(hand.status, (hand.head - 1) as u32));
     }
-    let count = area[4] as u32;
+    let count = hand.reductions as u32;
     let size = 3 * (count as usize);
     if out.len() < size {
         return ReportAnswer::Refused(Refusal::NoRoom(3 * count));
     }
     put_words(area, 18 + 4 * (area[0] as usize), size, out);
-    ReportAnswer::Report(count, moves::moves_of(area))
+    ReportAnswer::Report(count, hand.moves)
 }
 
 // The words of a row of n tokens cleared, whatever its answer.

@@ -1,50 +1,56 @@
 -- `calls::next_move` meets its contract: rules 1 and 2 here, the others in `related`.
 use native.Mathlib.Omega.{arith}
-use borrow.Author.Needs.{needs}
-use Rattle.reader.specs.OneMove.{row-there, can-push, can-stick, can-read}
+use Rattle.reader.specs.OneMove.{can-push, can-stick, can-read}
 use Rattle.reader.specs.Moved.{stuck-on-top, put-on-top, put-first}
+use borrow.Author.Needs.{needs}
 use Rattle.reader.proofs.calls.next_move.Statement.{statement}
 use Rattle.reader.proofs.calls.next_move.Tie as tie
 
-row-word-requires : tie.Need-row-word-requires
-row-word-requires c κs = row-there (c .before .before .before .pre) 1 (omega arith)
+cast-from : tie.Need-cast-from
+cast-from c = search needs
 
-row-word-requires-2 : tie.Need-row-word-requires-2
-row-word-requires-2 c κs = row-there (c .before .before .before .before .pre) 2 (omega arith)
+cast-head : tie.Need-cast-head
+cast-head c = search needs
 
 slot-word-requires : tie.Need-slot-word-requires
-slot-word-requires c κs = let p = can-push (c .before .before .before .before .before .pre) 0 (omega arith) in rw (c .row-word2 .ensures) (omega (arith, p .slot))
+slot-word-requires c κs = let p = can-push (c .before .before .before .before .before .pre .0) 0 (omega arith) in omega (arith, p .slot, c .before .before .before .before .before .pre .1 .head)
 
 nonterminal-on-top-requires : tie.Need-nonterminal-on-top-requires
-nonterminal-on-top-requires c κs = rw (c .before .before .before .row-word .ensures, c .before .before .row-word2 .ensures) (can-read (c .before .before .before .before .before .before .before .pre) .stacked)
+nonterminal-on-top-requires c κs = rw (c .before .before .before .before .before .before .before .pre .1 .from, c .before .before .before .before .before .before .before .pre .1 .head) (can-read (c .before .before .before .before .before .before .before .pre .0) .stacked)
 
 returns : tie.Need-returns
-returns c = record {
-  possible = can-stick (c .before .before .before .before .before .before .before .before .before .pre);
-  leaves = stuck-on-top (rw (c .before .before .before .slot-word .ensures, c .before .before .before .before .row-word2 .ensures) at (c .before .before .if1 .taken))
-      (rw (c .if2 .taken, c .before .before .before .before .before .row-word .ensures, c .before .before .before .before .row-word2 .ensures) at (c .before .nonterminal-on-top .ensures));
-}
+returns c =
+    let h = c .before .before .before .before .before .before .before .before .before .pre .1 in
+    record {
+      possible = can-stick (c .before .before .before .before .before .before .before .before .before .pre .0);
+      leaves = stuck-on-top (rw (c .before .before .before .slot-word .ensures, h .head) at (c .before .before .if1 .taken)) (rw (c .if2 .taken, h .from, h .head) at (c .before .nonterminal-on-top .ensures));
+    }
 
 returns-2 : tie.Need-returns-2
-returns-2 c = record {
-  possible = can-push (c .before .before .before .before .before .before .before .before .before .pre) 0 (omega arith);
-  leaves = put-on-top (rw (c .before .before .before .slot-word .ensures, c .before .before .before .before .row-word2 .ensures) at (c .before .before .if1 .taken))
-      (rw (c .if2 .left, c .before .before .before .before .before .row-word .ensures, c .before .before .before .before .row-word2 .ensures) at (c .before .nonterminal-on-top .ensures));
-}
+returns-2 c =
+    let h = c .before .before .before .before .before .before .before .before .before .pre .1 in
+    record {
+      possible = can-push (c .before .before .before .before .before .before .before .before .before .pre .0) 0 (omega arith);
+      leaves = put-on-top (rw (c .before .before .before .slot-word .ensures, h .head) at (c .before .before .if1 .taken)) (rw (c .if2 .left, h .from, h .head) at (c .before .nonterminal-on-top .ensures));
+    }
 
 top-terminal-requires : tie.Need-top-terminal-requires
-top-terminal-requires c κs = rw (c .before .before .before .row-word .ensures, c .before .before .row-word2 .ensures) (can-read (c .before .before .before .before .before .before .before .pre) .stacked)
+top-terminal-requires c κs = rw (c .before .before .before .before .before .before .before .pre .1 .from, c .before .before .before .before .before .before .before .pre .1 .head) (can-read (c .before .before .before .before .before .before .before .pre .0) .stacked)
 
 enum-known-a : tie.Need-enum-known-a
 enum-known-a c = search needs
 
 related-requires : tie.Need-related-requires
-related-requires c κs = record {
-  movable = c .before .before .before .before .before .before .before .before .before .before .before .pre;
-  next = rw (c .before .before .before .before .before .before .row-word2 .ensures) at (c .before .before .before .before .before .slot-word .ensures);
-  terminal = c .before .before .before .before .if1 .left;
-  top = rw (c .before .a .given .1, c .before .before .before .before .before .before .before .row-word .ensures, c .before .before .before .before .before .before .row-word2 .ensures) at (c .before .before .before .top-terminal .ensures);
-}
+related-requires c κs =
+    let h = c .before .before .before .before .before .before .before .before .before .before .before .pre .1 in (
+      record {
+        movable = c .before .before .before .before .before .before .before .before .before .before .before .pre .0;
+        next = rw (h .head) at (c .before .before .before .before .before .slot-word .ensures);
+        terminal = c .before .before .before .before .if1 .left;
+        top = rw (c .before .a .given .1, h .from, h .head) at (c .before .before .before .top-terminal .ensures);
+      },
+      h,
+    )
 
 returns-3 : tie.Need-returns-3
 returns-3 c = c .related .ensures
@@ -53,18 +59,19 @@ enum-told : tie.Need-enum-told
 enum-told c = search needs
 
 returns-4 : tie.Need-returns-4
-returns-4 c = record {
-  possible = can-push (c .before .before .before .before .before .before .before .before .before .before .pre) 0 (omega arith);
-  leaves = put-first (rw (c .before .before .before .before .slot-word .ensures, c .before .before .before .before .before .row-word2 .ensures) at (c .before .before .before .if1 .left))
-      (rw (c .enum-told .given .1, c .before .before .before .before .before .before .row-word .ensures, c .before .before .before .before .before .row-word2 .ensures) at (c .before .before .top-terminal .ensures));
-}
+returns-4 c =
+    let h = c .before .before .before .before .before .before .before .before .before .before .pre .1 in
+    record {
+      possible = can-push (c .before .before .before .before .before .before .before .before .before .before .pre .0) 0 (omega arith);
+      leaves = put-first (rw (c .before .before .before .before .slot-word .ensures, h .head) at (c .before .before .before .if1 .left)) (rw (c .enum-told .given .1, h .from, h .head) at (c .before .before .top-terminal .ensures));
+    }
 
 pub next-move-spec : {M : Type 1} → statement M
 next-move-spec =
     tie.close
     (tie.spec
-    row-word-requires
-    row-word-requires-2
+    cast-from
+    cast-head
     slot-word-requires
     nonterminal-on-top-requires
     returns

@@ -1,123 +1,95 @@
 -- `moves::join_chunks` meets its contract: the marks cleared, the `end` taken over and the row put to 0 are `oneWords`, and the move is counted.
+use native.Mathlib.Omega.{arith}
 use mathlib.Core.Path.{sym, ap, subst, _∙_}
 use mathlib.Core.List.{List}
 use Prim.Native.Nat.{ℕ}
-use native.Mathlib.Omega.{arith}
 use lib.ListN.{length-set}
-use borrow.Author.Needs.{needs}
 use Rattle.reader.specs.MoveWords.{tickWords, joinWords, Ticks}
 use Rattle.reader.proofs.Ready.{one-ready}
+use Rattle.reader.proofs.Hands.{hand-counted}
 use Rattle.reader.proofs.Zeroing.{one-zeroed}
+use borrow.Author.Needs.{needs}
 use Rattle.reader.proofs.moves.join_chunks.Statement.{statement}
 use Rattle.reader.proofs.moves.join_chunks.Tie as tie
 
-mul-line : tie.Need-mul-line
-mul-line c = search needs
+hand-of-requires : tie.Need-hand-of-requires
+hand-of-requires c κs = (c .before .before .pre .right, omega (arith, c .before .before .pre .room))
 
-add-line : tie.Need-add-line
-add-line c = search needs
-
-mul-other : tie.Need-mul-other
-mul-other c = search needs
-
-add-other : tie.Need-add-other
-add-other c = search needs
-
-add-from : tie.Need-add-from
-add-from c = search needs
-
-mul-from : tie.Need-mul-from
-mul-from c = search needs
-
-slice-read-from : tie.Need-slice-read-from
-slice-read-from c = search needs
-
-cast-from : tie.Need-cast-from
-cast-from c = search needs
-
-add-head : tie.Need-add-head
-add-head c = search needs
-
-mul-head : tie.Need-mul-head
-mul-head c = search needs
-
-slice-read-head : tie.Need-slice-read-head
-slice-read-head c = search needs
-
-cast-head : tie.Need-cast-head
-cast-head c = search needs
-
-add-end : tie.Need-add-end
-add-end c = search needs
-
-mul-end : tie.Need-mul-end
-mul-end c = search needs
-
-slice-read-end : tie.Need-slice-read-end
-slice-read-end c = search needs
+cast-slot-at : tie.Need-cast-slot-at
+cast-slot-at c = search needs
 
 slot-at-requires : tie.Need-slot-at-requires
-slot-at-requires c κs = search needs
+slot-at-requires c κs = omega (arith, c .before .hand-of .ensures .from, c .before .before .before .before .pre .from, c .before .before .before .before .pre .room)
 
 add-unmark : tie.Need-add-unmark
 add-unmark c = search needs
 
 sub-unmark : tie.Need-sub-unmark
-sub-unmark c = search needs
+sub-unmark c = omega (arith, c .before .before .before .hand-of .ensures .from, c .before .before .before .hand-of .ensures .head, c .before .before .before .before .before .before .pre .from)
+
+cast-unmark : tie.Need-cast-unmark
+cast-unmark c = search needs
 
 unmark-requires : tie.Need-unmark-requires
-unmark-requires c κs = search needs
-
-add-area : tie.Need-add-area
-add-area c = search needs
+unmark-requires c κs = omega (arith, c .before .slot-at .ensures, c .before .before .before .hand-of .ensures .from, c .before .before .before .hand-of .ensures .head, c .before .before .before .before .before .before .pre .from, c .before .before .before .before .before .before .pre .room)
 
 mul-area : tie.Need-mul-area
 mul-area c = search needs
 
+add-area : tie.Need-add-area
+add-area c = search needs
+
+add-area-2 : tie.Need-add-area-2
+add-area-2 c = search needs
+
+mul-area-2 : tie.Need-mul-area-2
+mul-area-2 c = search needs
+
 slice-write-area : tie.Need-slice-write-area
-slice-write-area c = search needs
+slice-write-area c = omega (arith, c .before .before .unmark .kept .0, c .before .before .before .before .before .before .before .before .before .pre .left, c .before .before .before .before .before .before .before .before .before .pre .room)
+
+mul-zero : tie.Need-mul-zero
+mul-zero c = search needs
+
+add-zero : tie.Need-add-zero
+add-zero c = search needs
 
 zero-requires : tie.Need-zero-requires
-zero-requires c κs = simp length-set (omega (arith, c .before .before .before .unmark .kept .0))
+zero-requires c κs = simp length-set (omega (arith, c .before .before .before .unmark .kept .0, c .before .before .before .before .before .before .before .before .before .before .pre .right, c .before .before .before .before .before .before .before .before .before .before .pre .room))
 
 tick-requires : tie.Need-tick-requires
 tick-requires c κs =
-    let p = c .before .before .before .before .before .before .before .before .before .before .before .before .before .before .before .pre in
-    rw (c .before .before .before .zero .ensures, c .before .before .before .before .before .before .before .unmark .ensures, c .before .before .before .before .before .before .before .before .before .slot-at .ensures) (subst (λ (l : List ℕ). Ticks l) (sym (one-zeroed _ _ _ p)) (one-ready _ _ _ p))
+    let p = c .before .before .before .before .before .before .before .before .before .before .before .before .before .before .pre in
+    let h = c .before .before .before .before .before .before .before .before .before .before .before .hand-of .ensures in
+    rw (c .before .before .before .zero .ensures, c .before .before .before .before .before .before .before .unmark .ensures, c .before .before .before .before .before .before .before .before .before .slot-at .ensures, h .from, h .head, h .end) (subst (λ (l : List ℕ). Ticks l (c .before .before .before .before .before .before .before .before .before .before .before .hand-of .result .moves)) (sym (one-zeroed _ _ _ p)) (one-ready _ _ _ _ (hand-counted h (omega (arith, p .room)) (omega (arith, c .before .before .before .before .before .before .before .before .before .before .before .before .before .slice-known .given 2)) (p .few))))
 
 same-length : tie.Need-same-length
 same-length c = c .before .before .tick .kept .0 ∙ c .before .before .before .before .before .before .zero .kept .0 ∙ simp length-set (c .before .before .before .before .before .before .before .before .before .before .unmark .kept .0)
 
 returns : tie.Need-returns
 unfolding joinWords
-returns c = rw (c .before .before .tick .ensures, c .before .before .before .before .before .before .zero .ensures, c .before .before .before .before .before .before .before .before .before .before .unmark .ensures, c .before .before .before .before .before .before .before .before .before .before .before .before .slot-at .ensures) (ap tickWords (one-zeroed _ _ _ (c .before .before .before .before .before .before .before .before .before .before .before .before .before .before .before .before .before .before .pre)))
+returns c =
+    let h = c .before .before .before .before .before .before .before .before .before .before .before .before .before .before .hand-of .ensures in
+    rw (c .before .before .tick .ensures .1, c .before .before .before .before .before .before .zero .ensures, c .before .before .before .before .before .before .before .before .before .before .unmark .ensures, c .before .before .before .before .before .before .before .before .before .before .before .before .slot-at .ensures, h .from, h .head, h .end) (ap tickWords (one-zeroed _ _ _ (c .before .before .before .before .before .before .before .before .before .before .before .before .before .before .before .before .before .pre)))
 
 pub join-chunks-spec : {M : Type 1} → statement M
 join-chunks-spec =
     tie.close
     (tie.spec
-    mul-line
-    add-line
-    mul-other
-    add-other
-    add-from
-    mul-from
-    slice-read-from
-    cast-from
-    add-head
-    mul-head
-    slice-read-head
-    cast-head
-    add-end
-    mul-end
-    slice-read-end
+    hand-of-requires
+    cast-slot-at
     slot-at-requires
     add-unmark
     sub-unmark
+    cast-unmark
     unmark-requires
-    add-area
     mul-area
+    add-area
+    add-area-2
+    mul-area-2
     slice-write-area
+    mul-zero
+    add-zero
     zero-requires
     tick-requires
     same-length

@@ -1,13 +1,10 @@
 -- `moves::note` meets its contract: four stores.
-use Rattle.reader.specs.MoveWords.{notedWords}
 use native.Mathlib.Omega.{arith}
 use lib.ListN.{length-set}
+use Rattle.reader.specs.MoveWords.{notedWords}
 use borrow.Author.Needs.{needs}
 use Rattle.reader.proofs.moves.note.Statement.{statement}
 use Rattle.reader.proofs.moves.note.Tie as tie
-
-slice-read-made : tie.Need-slice-read-made
-slice-read-made c = search needs
 
 slice-reshared-read-slot-at : tie.Need-slice-reshared-read-slot-at
 slice-reshared-read-slot-at c = search needs
@@ -20,9 +17,6 @@ add-slot-at c = search needs
 
 slot-at-requires : tie.Need-slot-at-requires
 slot-at-requires c κs = search needs
-
-cast-at : tie.Need-cast-at
-cast-at c = search needs
 
 mul-at : tie.Need-mul-at
 mul-at c = search needs
@@ -55,7 +49,7 @@ slice-write-area-3 : tie.Need-slice-write-area-3
 slice-write-area-3 c = simp length-set (omega arith)
 
 add-area-3 : tie.Need-add-area-3
-add-area-3 c = omega (arith, c .before .before .slice-known2 .given 0)
+add-area-3 c = omega (arith, c .before .before .before .pre .0 .made, c .before .before .before .pre .1, c .before .before .slice-known .given 0)
 
 slice-write-area-4 : tie.Need-slice-write-area-4
 slice-write-area-4 c = simp length-set (omega arith)
@@ -65,18 +59,16 @@ same-length c = search needs
 
 returns : tie.Need-returns
 unfolding notedWords
-returns c = rw (c .slot-at .ensures)
+returns c = rw (c .slot-at .ensures, c .before .before .before .pre .1)
 
 pub note-spec : {M : Type 1} → statement M
 note-spec =
     tie.close
     (tie.spec
-    slice-read-made
     slice-reshared-read-slot-at
     cast-slot-at
     add-slot-at
     slot-at-requires
-    cast-at
     mul-at
     add-at
     mul-area

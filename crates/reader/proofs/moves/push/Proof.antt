@@ -1,9 +1,8 @@
 -- `moves::push` meets its contract: the three stores are `putWords`, and the move is counted.
-use Rattle.reader.proofs.Ready.{put-ready}
-use Rattle.reader.specs.MoveWords.{pushWords, putWords}
 use native.Mathlib.Omega.{arith}
-use mathlib.Core.Path.{_∙_}
 use lib.ListN.{length-set}
+use mathlib.Core.Path.{_∙_}
+use Rattle.reader.proofs.Hands.{put-ticks, hand-pushed}
 use borrow.Author.Needs.{needs}
 use Rattle.reader.proofs.moves.push.Statement.{statement}
 use Rattle.reader.proofs.moves.push.Tie as tie
@@ -14,38 +13,26 @@ mul-line c = search needs
 add-line : tie.Need-add-line
 add-line c = search needs
 
-add-head : tie.Need-add-head
-add-head c = search needs
-
-mul-head : tie.Need-mul-head
-mul-head c = search needs
-
-slice-read-head : tie.Need-slice-read-head
-slice-read-head c = search needs
-
-add-marks : tie.Need-add-marks
-add-marks c = search needs
-
-mul-marks : tie.Need-mul-marks
-mul-marks c = search needs
-
-slice-read-marks : tie.Need-slice-read-marks
-slice-read-marks c = search needs
-
 cast-slot-at : tie.Need-cast-slot-at
 cast-slot-at c = search needs
 
 slot-at-requires : tie.Need-slot-at-requires
-slot-at-requires c κs = search needs
+slot-at-requires c κs = omega (arith, c .before .before .pre .0 .slot, c .before .before .pre .1 .head)
 
-add-size : tie.Need-add-size
-add-size c = search needs
+add-hand : tie.Need-add-hand
+add-hand c = search needs
 
-mul-size : tie.Need-mul-size
-mul-size c = search needs
+mul-hand : tie.Need-mul-hand
+mul-hand c = search needs
 
-slice-read-size : tie.Need-slice-read-size
-slice-read-size c = search needs
+slice-read-hand : tie.Need-slice-read-hand
+slice-read-hand c = omega (arith, c .before .slot-at .ensures, c .before .before .before .before .pre .0 .slot, c .before .before .before .before .pre .1 .head)
+
+add-hand-2 : tie.Need-add-hand-2
+add-hand-2 c = omega (arith, rw (← c .before .before .before .before .pre .1 .head, ← c .before .slot-at .ensures) at (c .before .before .before .before .pre .0 .head))
+
+add-hand-3 : tie.Need-add-hand-3
+add-hand-3 c = omega (arith, c .before .before .before .before .before .pre .0 .marks, c .before .before .before .before .before .pre .1 .marks)
 
 add-area : tie.Need-add-area
 add-area c = search needs
@@ -54,42 +41,34 @@ mul-area : tie.Need-mul-area
 mul-area c = search needs
 
 slice-write-area : tie.Need-slice-write-area
-slice-write-area c = search needs
+slice-write-area c = omega (arith, c .before .before .slot-at .ensures, c .before .before .before .before .before .pre .0 .slot, c .before .before .before .before .before .pre .1 .head)
 
 add-area-2 : tie.Need-add-area-2
-add-area-2 c = omega (arith, rw (← c .before .slot-at .ensures) at (c .before .before .before .before .before .before .pre .head))
-
-add-area-3 : tie.Need-add-area-3
-add-area-3 c = search needs
+add-area-2 c = search needs
 
 mul-area-2 : tie.Need-mul-area-2
 mul-area-2 c = search needs
 
 slice-write-area-2 : tie.Need-slice-write-area-2
-slice-write-area-2 c = simp length-set (omega arith)
+slice-write-area-2 c = simp length-set (omega (arith, c .before .before .before .before .before .pre .0 .chunk, c .before .before .before .before .before .pre .0 .slot))
 
-add-area-4 : tie.Need-add-area-4
-add-area-4 c = search needs
-
-add-area-5 : tie.Need-add-area-5
-add-area-5 c = search needs
+add-area-3 : tie.Need-add-area-3
+add-area-3 c = search needs
 
 mul-area-3 : tie.Need-mul-area-3
 mul-area-3 c = search needs
 
 slice-write-area-3 : tie.Need-slice-write-area-3
-slice-write-area-3 c = simp length-set (omega arith)
+slice-write-area-3 c = simp length-set (omega (arith, c .before .before .before .before .before .pre .0 .chunk, c .before .before .before .before .before .pre .0 .slot))
 
 tick-requires : tie.Need-tick-requires
-unfolding putWords
-tick-requires c κs = rw (c .before .before .slot-at .ensures) (put-ready _ _ _ (c .before .before .before .before .before .before .before .pre))
+tick-requires c κs = rw (c .before .before .before .slot-at .ensures) (put-ticks _ _ _ _ (c .before .before .before .before .before .before .pre) (omega (arith, c .before .before .before .before .before .slice-known .given 2)))
 
 same-length : tie.Need-same-length
 same-length c = c .before .before .tick .kept .0 ∙ simp length-set
 
 returns : tie.Need-returns
-unfolding pushWords putWords
-returns c = rw (c .before .before .tick .ensures, c .before .before .before .before .before .slot-at .ensures)
+returns c = rw (c .before .before .tick .ensures .1, c .before .before .tick .ensures .0, c .before .before .before .before .before .before .slot-at .ensures) (hand-pushed _ _ _ _ (c .before .before .before .before .before .before .before .before .before .pre))
 
 pub push-spec : {M : Type 1} → statement M
 push-spec =
@@ -97,26 +76,20 @@ push-spec =
     (tie.spec
     mul-line
     add-line
-    add-head
-    mul-head
-    slice-read-head
-    add-marks
-    mul-marks
-    slice-read-marks
     cast-slot-at
     slot-at-requires
-    add-size
-    mul-size
-    slice-read-size
+    add-hand
+    mul-hand
+    slice-read-hand
+    add-hand-2
+    add-hand-3
     add-area
     mul-area
     slice-write-area
     add-area-2
-    add-area-3
     mul-area-2
     slice-write-area-2
-    add-area-4
-    add-area-5
+    add-area-3
     mul-area-3
     slice-write-area-3
     tick-requires

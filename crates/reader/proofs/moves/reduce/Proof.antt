@@ -1,108 +1,65 @@
--- `moves::reduce` meets its contract: the handle cleared, the block laid and the mark dropped are `replacedWords`; the reduction is noted, and the move counted.
-use Rattle.reader.proofs.Ready.{replaced-roomy, reduce-ready}
-use Rattle.reader.specs.MoveWords.{reduceWords, replacedWords}
-use mathlib.Core.Path.{_∙_}
+-- `moves::reduce` meets its contract: the block laid over the handle and the mark dropped are `replacedWords`; the reduction is noted, and the move counted.
+use native.Mathlib.Omega.{arith}
 use lib.ListN.{length-set}
+use mathlib.Core.Path.{_∙_}
+use Rattle.reader.proofs.Hands.{over-roomy, over-ticks, hand-reduced}
 use borrow.Author.Needs.{needs}
 use Rattle.reader.proofs.moves.reduce.Statement.{statement}
 use Rattle.reader.proofs.moves.reduce.Tie as tie
 
-mul-line : tie.Need-mul-line
-mul-line c = search needs
+sub-hand : tie.Need-sub-hand
+sub-hand c = omega (arith, c .before .before .pre .0 .marked, c .before .before .pre .1 .marks)
 
-add-line : tie.Need-add-line
-add-line c = search needs
+add-hand : tie.Need-add-hand
+add-hand c = omega (arith, c .before .before .pre .0 .room .made, c .before .before .pre .1 .reductions, c .before .slice-known .given 0)
 
-add-head : tie.Need-add-head
-add-head c = search needs
-
-mul-head : tie.Need-mul-head
-mul-head c = search needs
-
-slice-read-head : tie.Need-slice-read-head
-slice-read-head c = search needs
-
-add-marks : tie.Need-add-marks
-add-marks c = search needs
-
-mul-marks : tie.Need-mul-marks
-mul-marks c = search needs
-
-slice-read-marks : tie.Need-slice-read-marks
-slice-read-marks c = search needs
-
-slot-at-requires : tie.Need-slot-at-requires
-slot-at-requires c κs = search needs
-
-cast-slot-at : tie.Need-cast-slot-at
-cast-slot-at c = search needs
-
-slot-at-requires-2 : tie.Need-slot-at-requires-2
-slot-at-requires-2 c κs = search needs
-
-clear-requires : tie.Need-clear-requires
-clear-requires c κs = rw (c .before .slot-at2 .ensures, c .before .before .before .slot-at .ensures) (c .before .before .before .before .before .before .before .before .pre .handle)
-
-sub-lay : tie.Need-sub-lay
-sub-lay c = search needs
-
-lay-requires : tie.Need-lay-requires
-lay-requires c κs = search needs
-
-sub-area : tie.Need-sub-area
-sub-area c = search needs
-
-add-area : tie.Need-add-area
-add-area c = search needs
+lay-over-requires : tie.Need-lay-over-requires
+lay-over-requires c κs = rw (c .before .before .before .pre .1 .head) (c .before .before .before .pre .0 .some, c .before .before .before .pre .0 .handle, omega (arith, c .before .before .before .pre .0 .top, c .before .before .before .pre .0 .room .room))
 
 mul-area : tie.Need-mul-area
 mul-area c = search needs
 
+add-area : tie.Need-add-area
+add-area c = search needs
+
+add-area-2 : tie.Need-add-area-2
+add-area-2 c = search needs
+
+mul-area-2 : tie.Need-mul-area-2
+mul-area-2 c = search needs
+
 slice-write-area : tie.Need-slice-write-area
-slice-write-area c = search needs
+slice-write-area c = omega (arith, c .before .before .lay-over .kept .0, c .before .before .before .before .before .before .pre .0 .chunk, c .before .before .before .before .before .before .pre .0 .room .room)
 
 sub-note : tie.Need-sub-note
-sub-note c = search needs
+sub-note c = omega (arith, c .before .before .before .before .before .before .before .pre .0 .low)
 
 sub-note-2 : tie.Need-sub-note-2
-sub-note-2 c = search needs
+sub-note-2 c = omega (arith, c .before .before .before .before .before .before .before .pre .0 .some, c .before .before .before .before .before .before .before .pre .1 .head)
 
 note-requires : tie.Need-note-requires
-unfolding replacedWords
-note-requires c κs = rw (c .before .before .before .lay .ensures, c .before .before .before .before .before .before .before .clear .ensures, c .before .before .before .before .before .before .before .before .before .slot-at2 .ensures, c .before .before .before .before .before .before .before .before .before .before .before .slot-at .ensures) (replaced-roomy _ _ _ _ (c .before .before .before .before .before .before .before .before .before .before .before .before .before .before .before .before .pre))
+note-requires c κs = rw (c .before .before .before .lay-over .ensures) (over-roomy _ _ _ _ _ (c .before .before .before .before .before .before .before .pre))
 
 tick-requires : tie.Need-tick-requires
-unfolding replacedWords
-tick-requires c κs = rw (c .before .before .before .note .ensures, c .before .before .before .before .before .before .before .lay .ensures, c .before .before .before .before .before .before .before .before .before .before .before .clear .ensures, c .before .before .before .before .before .before .before .before .before .before .before .before .before .slot-at2 .ensures, c .before .before .before .before .before .before .before .before .before .before .before .before .before .before .before .slot-at .ensures) (reduce-ready _ _ _ _ (c .before .before .before .before .before .before .before .before .before .before .before .before .before .before .before .before .before .before .before .before .pre) _ _ _)
+tick-requires c κs = rw (c .before .before .before .note .ensures, c .before .before .before .before .before .before .before .lay-over .ensures) (over-ticks _ _ _ _ _ (c .before .before .before .before .before .before .before .before .before .before .before .pre) _ _ _ (omega (arith, c .before .before .before .before .before .before .before .before .before .before .slice-known .given 2)))
 
 same-length : tie.Need-same-length
-same-length c = c .before .before .tick .kept .0 ∙ c .before .before .before .before .before .before .note .kept .0 ∙ simp length-set (c .before .before .before .before .before .before .before .before .before .before .lay .kept .0 ∙ c .before .before .before .before .before .before .before .before .before .before .before .before .before .before .clear .kept .0)
+same-length c = c .before .before .tick .kept .0 ∙ c .before .before .before .before .before .before .note .kept .0 ∙ simp length-set (c .before .before .before .before .before .before .before .before .before .before .lay-over .kept .0)
 
 returns : tie.Need-returns
-unfolding reduceWords replacedWords
-returns c = rw (c .before .before .tick .ensures, c .before .before .before .before .before .before .note .ensures, c .before .before .before .before .before .before .before .before .before .before .lay .ensures, c .before .before .before .before .before .before .before .before .before .before .before .before .before .before .clear .ensures, c .before .before .before .before .before .before .before .before .before .before .before .before .before .before .before .before .slot-at2 .ensures, c .before .before .before .before .before .before .before .before .before .before .before .before .before .before .before .before .before .before .slot-at .ensures)
+returns c = rw (c .before .before .tick .ensures .1, c .before .before .tick .ensures .0, c .before .before .before .before .before .before .note .ensures, c .before .before .before .before .before .before .before .before .before .before .lay-over .ensures) (hand-reduced _ _ _ _ _ (c .before .before .before .before .before .before .before .before .before .before .before .before .before .before .pre) _)
 
 pub reduce-spec : {M : Type 1} → statement M
 reduce-spec =
     tie.close
     (tie.spec
-    mul-line
-    add-line
-    add-head
-    mul-head
-    slice-read-head
-    add-marks
-    mul-marks
-    slice-read-marks
-    slot-at-requires
-    cast-slot-at
-    slot-at-requires-2
-    clear-requires
-    sub-lay
-    lay-requires
-    sub-area
-    add-area
+    sub-hand
+    add-hand
+    lay-over-requires
     mul-area
+    add-area
+    add-area-2
+    mul-area-2
     slice-write-area
     sub-note
     sub-note-2

@@ -1,6 +1,4 @@
 -- `moves::row_word` meets its contract: the word at the row's place.
-use Prim.Native.Nat.{_+_, _*_}
-use native.Mathlib.Omega.{arith}
 use borrow.Author.Needs.{needs}
 use Rattle.reader.proofs.moves.row_word.Statement.{statement}
 use Rattle.reader.proofs.moves.row_word.Tie as tie
@@ -20,9 +18,6 @@ mul-result-2 c = search needs
 shared-slice-read-result : tie.Need-shared-slice-read-result
 shared-slice-read-result c = search needs
 
-cast-result : tie.Need-cast-result
-cast-result c = let a = c .before .args in omega (arith, c .shared-slice-known .given (5 + 5 * a .c + a .k))
-
 returns : tie.Need-returns
 returns c = search needs
 
@@ -35,5 +30,4 @@ row-word-spec =
     add-result-2
     mul-result-2
     shared-slice-read-result
-    cast-result
     returns)

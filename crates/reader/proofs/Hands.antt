@@ -1,0 +1,254 @@
+-- What is at hand after each store of a move: the hand with that word changed is what the area holds then.
+-- Rests on AtHand, MoveWords and Ready.
+--
+-- Main statements: hand-rests; hand-counted, put-ticks, stuck-ticks, end-ticks, over-roomy, over-ticks; hand-pushed, hand-stuck, hand-accepted, hand-reduced.
+use mathlib.Core.Path.{_≡_, refl, sym, ap, subst, _∙_}
+use mathlib.Core.Bool.{Bool}
+use mathlib.Core.List.{List}
+use Prim.Native.Nat.{ℕ, _+_, _*_, _-_, _/_, _%_, _<_, _≤_}
+use native.Mathlib.Omega.{arith}
+use lib.Dec.{eqb}
+use lib.ListN.{length, getD, set, length-set}
+use lib.Seq.{getD-set-other, getD-set-same}
+use Rattle.area.specs.Layout.{tableAt, rowWord, slotWord, movesIn, madeAtWord}
+use Rattle.reader.specs.declared.moves.Hand.{Hand}
+use Rattle.reader.specs.AtHand.{AtHand}
+use Rattle.reader.specs.MoveWords.{headOf, endOf, marksOf, slotAt, tickWords, putWords, pushWords, stickWords, endedWords, acceptWords, clearedWords, overWords, notedWords, replacedWords, reduceWords, Ticks, Pushable, Stickable, Acceptable, Roomy, Reducible}
+use Rattle.reader.specs.Moved.{restsBy, restsIn}
+use Rattle.reader.proofs.Ready.{put-ready, stick-ready, ended-ready, cleared-length, cleared-before, over-before, over-length, replaced-before, replaced-roomy, reduce-ready}
+use Rattle.reader.proofs.Zeroing.{ended-zeroed}
+
+pub hand-rests : {area : List ℕ} {c : ℕ} {h : Hand} → AtHand area c h → restsBy (eqb (h .status) 1) (h .end) (h .head) ≡ restsIn area c
+hand-rests a = rw (a .status, a .end, a .head)
+
+-- the move can be counted
+pub hand-counted : {area : List ℕ} {c : ℕ} {h : Hand} → AtHand area c h → 5 ≤ length area → getD area 2 0 < 65536 → getD area 3 0 < 65535 → Ticks area (h .moves)
+hand-counted a long low few = record { long = long; low = low; few = few; count = a .moves }
+
+-- ---- one store
+
+-- a word that is not at hand
+hand-same : {area area′ : List ℕ} {c : ℕ} {h : Hand} → AtHand area c h → ((j : ℕ) → 1 < j → j < tableAt c 5 → getD area′ j 0 ≡ getD area j 0) → AtHand area′ c h
+hand-same {c = c} a e = record {
+  status = a .status ∙ sym (e (tableAt c 0) (omega arith) (omega arith));
+  from = a .from ∙ sym (e (tableAt c 1) (omega arith) (omega arith));
+  head = a .head ∙ sym (e (tableAt c 2) (omega arith) (omega arith));
+  end = a .end ∙ sym (e (tableAt c 3) (omega arith) (omega arith));
+  marks = a .marks ∙ sym (e (tableAt c 4) (omega arith) (omega arith));
+  reductions = a .reductions ∙ sym (e 4 (omega arith) (omega arith));
+  moves = rw (e 2 (omega arith) (omega arith), e 3 (omega arith) (omega arith)) (a .moves);
+}
+
+module _ {area : List ℕ} {c : ℕ} {h : Hand} (a : AtHand area c h) (v : ℕ) where
+  kept : (i j : ℕ) → (j ≡ i → ⊥) → {x : ℕ} → x ≡ getD area j 0 → x ≡ getD (set area i v) j 0
+  kept i j n e = e ∙ sym (getD-set-other area i j v 0 n)
+
+  counts : (i : ℕ) → 3 < i → h .moves ≡ movesIn (set area i v)
+  counts i l = rw (getD-set-other area i 2 v 0 (omega arith), getD-set-other area i 3 v 0 (omega arith)) (a .moves)
+
+  hand-beyond : (i : ℕ) → tableAt c 5 ≤ i → AtHand (set area i v) c h
+  hand-beyond i l = hand-same a (λ j p q. getD-set-other area i j v 0 (omega arith))
+
+  hand-status : tableAt c 0 < length area → AtHand (set area (tableAt c 0) v) c (record { status = v; from = h .from; head = h .head; end = h .end; marks = h .marks; reductions = h .reductions; moves = h .moves })
+  hand-status l = record {
+    status = sym (getD-set-same area (tableAt c 0) v 0 l);
+    from = kept (tableAt c 0) (tableAt c 1) (omega arith) (a .from);
+    head = kept (tableAt c 0) (tableAt c 2) (omega arith) (a .head);
+    end = kept (tableAt c 0) (tableAt c 3) (omega arith) (a .end);
+    marks = kept (tableAt c 0) (tableAt c 4) (omega arith) (a .marks);
+    reductions = kept (tableAt c 0) 4 (omega arith) (a .reductions);
+    moves = counts (tableAt c 0) (omega arith);
+  }
+
+  hand-head : tableAt c 2 < length area → AtHand (set area (tableAt c 2) v) c (record { status = h .status; from = h .from; head = v; end = h .end; marks = h .marks; reductions = h .reductions; moves = h .moves })
+  hand-head l = record {
+    status = kept (tableAt c 2) (tableAt c 0) (omega arith) (a .status);
+    from = kept (tableAt c 2) (tableAt c 1) (omega arith) (a .from);
+    head = sym (getD-set-same area (tableAt c 2) v 0 l);
+    end = kept (tableAt c 2) (tableAt c 3) (omega arith) (a .end);
+    marks = kept (tableAt c 2) (tableAt c 4) (omega arith) (a .marks);
+    reductions = kept (tableAt c 2) 4 (omega arith) (a .reductions);
+    moves = counts (tableAt c 2) (omega arith);
+  }
+
+  hand-end : tableAt c 3 < length area → AtHand (set area (tableAt c 3) v) c (record { status = h .status; from = h .from; head = h .head; end = v; marks = h .marks; reductions = h .reductions; moves = h .moves })
+  hand-end l = record {
+    status = kept (tableAt c 3) (tableAt c 0) (omega arith) (a .status);
+    from = kept (tableAt c 3) (tableAt c 1) (omega arith) (a .from);
+    head = kept (tableAt c 3) (tableAt c 2) (omega arith) (a .head);
+    end = sym (getD-set-same area (tableAt c 3) v 0 l);
+    marks = kept (tableAt c 3) (tableAt c 4) (omega arith) (a .marks);
+    reductions = kept (tableAt c 3) 4 (omega arith) (a .reductions);
+    moves = counts (tableAt c 3) (omega arith);
+  }
+
+  hand-marks : tableAt c 4 < length area → AtHand (set area (tableAt c 4) v) c (record { status = h .status; from = h .from; head = h .head; end = h .end; marks = v; reductions = h .reductions; moves = h .moves })
+  hand-marks l = record {
+    status = kept (tableAt c 4) (tableAt c 0) (omega arith) (a .status);
+    from = kept (tableAt c 4) (tableAt c 1) (omega arith) (a .from);
+    head = kept (tableAt c 4) (tableAt c 2) (omega arith) (a .head);
+    end = kept (tableAt c 4) (tableAt c 3) (omega arith) (a .end);
+    marks = sym (getD-set-same area (tableAt c 4) v 0 l);
+    reductions = kept (tableAt c 4) 4 (omega arith) (a .reductions);
+    moves = counts (tableAt c 4) (omega arith);
+  }
+
+  hand-reductions : 4 < length area → AtHand (set area 4 v) c (record { status = h .status; from = h .from; head = h .head; end = h .end; marks = h .marks; reductions = v; moves = h .moves })
+  hand-reductions l = record {
+    status = kept 4 (tableAt c 0) (omega arith) (a .status);
+    from = kept 4 (tableAt c 1) (omega arith) (a .from);
+    head = kept 4 (tableAt c 2) (omega arith) (a .head);
+    end = kept 4 (tableAt c 3) (omega arith) (a .end);
+    marks = kept 4 (tableAt c 4) (omega arith) (a .marks);
+    reductions = sym (getD-set-same area 4 v 0 l);
+    moves = counts 4 (omega arith);
+  }
+
+-- the move counted
+hand-ticks : {area : List ℕ} {c : ℕ} {h : Hand} → AtHand area c h → 5 ≤ length area
+    → AtHand (tickWords area) c (record { status = h .status; from = h .from; head = h .head; end = h .end; marks = h .marks; reductions = h .reductions; moves = h .moves + 1 })
+unfolding tickWords
+hand-ticks {area} {c} {h} a l =
+    let low : ℕ = (movesIn area + 1) % 65536 in
+    let high : ℕ = (movesIn area + 1) / 65536 in
+    let word : (j : ℕ) → 3 < j → getD area j 0 ≡ getD (set (set area 2 low) 3 high) j 0
+    = λ j p. sym (getD-set-other (set area 2 low) 3 j high 0 (omega arith) ∙ getD-set-other area 2 j low 0 (omega arith)) in
+    let second : getD (set (set area 2 low) 3 high) 2 0 ≡ low = getD-set-other (set area 2 low) 3 2 high 0 (omega arith) ∙ getD-set-same area 2 low 0 (omega arith) in
+    let third : getD (set (set area 2 low) 3 high) 3 0 ≡ high = getD-set-same (set area 2 low) 3 high 0 (simp length-set (omega arith)) in
+    record {
+      status = a .status ∙ word (tableAt c 0) (omega arith);
+      from = a .from ∙ word (tableAt c 1) (omega arith);
+      head = a .head ∙ word (tableAt c 2) (omega arith);
+      end = a .end ∙ word (tableAt c 3) (omega arith);
+      marks = a .marks ∙ word (tableAt c 4) (omega arith);
+      reductions = a .reductions ∙ word 4 (omega arith);
+      moves = rw (second, third, a .moves) (omega arith);
+    }
+
+-- ---- a move
+
+module _ (area : List ℕ) (c : ℕ) (h : Hand) where
+  module _ (mark : ℕ) (p : Pushable area c mark × AtHand area c h) where
+    abbrev headed : ℕ
+    headed = h .head + slotWord area (h .head) 2
+
+    -- a symbol put on
+    put-stored : set (set (set area (slotAt area (h .head) + 1) mark) (tableAt c 2) headed) (tableAt c 4) (h .marks + mark) ≡ putWords area c mark
+    unfolding putWords
+    put-stored = rw (p .1 .head, p .1 .marks)
+
+    pub put-ticks : getD area 2 0 < 65536 → Ticks (set (set (set area (slotAt area (h .head) + 1) mark) (tableAt c 2) headed) (tableAt c 4) (h .marks + mark)) (h .moves)
+    put-ticks low = rw put-stored (put-ready area c mark (h .moves) (hand-counted (p .1) (omega (arith, p .0 .slot)) low (p .0 .few)))
+
+    pub hand-pushed :
+        (tickWords (set (set (set area (slotAt area (h .head) + 1) mark) (tableAt c 2) headed) (tableAt c 4) (h .marks + mark)) ≡ pushWords area c mark)
+        × AtHand (tickWords (set (set (set area (slotAt area (h .head) + 1) mark) (tableAt c 2) headed) (tableAt c 4) (h .marks + mark))) c
+        (record { status = h .status; from = h .from; head = headed; end = h .end; marks = h .marks + mark; reductions = h .reductions; moves = h .moves + 1 })
+    unfolding pushWords
+    hand-pushed = (
+      ap tickWords put-stored,
+      hand-ticks
+          (hand-marks {area = set (set area (slotAt area (h .head) + 1) mark) (tableAt c 2) headed}
+          (hand-head {area = set area (slotAt area (h .head) + 1) mark} (hand-beyond (p .1) mark (slotAt area (h .head) + 1) (omega (arith, p .0 .chunk))) headed (simp length-set (omega (arith, p .0 .chunk, p .0 .slot))))
+          (h .marks + mark) (simp length-set (omega (arith, p .0 .chunk, p .0 .slot))))
+          (simp length-set (omega (arith, p .0 .slot))),
+    )
+
+  -- a chunk stuck
+  module _ (status : ℕ) (p : Stickable area c × AtHand area c h) where
+    pub stuck-ticks : getD area 2 0 < 65536 → Ticks (set area (tableAt c 0) status) (h .moves)
+    stuck-ticks low = stick-ready area c status (h .moves) (hand-counted (p .1) (omega (arith, p .0 .room)) low (p .0 .few))
+
+    pub hand-stuck : AtHand (tickWords (set area (tableAt c 0) status)) c
+        (record { status = status; from = h .from; head = h .head; end = h .end; marks = h .marks; reductions = h .reductions; moves = h .moves + 1 })
+    hand-stuck = hand-ticks (hand-status (p .1) status (omega (arith, p .0 .chunk, p .0 .room))) (simp length-set (omega (arith, p .0 .room)))
+
+  -- the # of the end read
+  module _ (p : Acceptable area c × AtHand area c h) where
+    abbrev cleared : List ℕ
+    cleared = clearedWords area (slotAt area (h .end - 1)) 4
+
+    end-stored : set cleared (tableAt c 3) (h .end - 1) ≡ endedWords area c
+    end-stored = rw (p .1 .end) (ended-zeroed area c (p .0))
+
+    long-cleared : length cleared ≡ length area
+    long-cleared = cleared-length area (slotAt area (h .end - 1)) 4 (omega (arith, p .0 .some, p .0 .room, p .1 .end))
+
+    pub end-ticks : getD area 2 0 < 65536 → Ticks (set cleared (tableAt c 3) (h .end - 1)) (h .moves)
+    end-ticks low = rw end-stored (ended-ready area c (h .moves) (hand-counted (p .1) (omega (arith, p .0 .room)) low (p .0 .few)))
+
+    pub hand-accepted : (tickWords (set cleared (tableAt c 3) (h .end - 1)) ≡ acceptWords area c)
+        × AtHand (tickWords (set cleared (tableAt c 3) (h .end - 1))) c
+        (record { status = h .status; from = h .from; head = h .head; end = h .end - 1; marks = h .marks; reductions = h .reductions; moves = h .moves + 1 })
+    unfolding acceptWords
+    hand-accepted = (
+      ap tickWords end-stored,
+      hand-ticks
+          (hand-end {area = cleared}
+          (hand-same (p .1) (λ j q l. cleared-before area (slotAt area (h .end - 1)) 4 j (omega (arith, p .0 .chunk)) (omega (arith, p .0 .room, p .1 .end))))
+          (h .end - 1) (omega (arith, long-cleared, p .0 .chunk, p .0 .room)))
+          (simp length-set (omega (arith, long-cleared, p .0 .room))),
+    )
+
+  -- a handle replaced
+  module _ (from symbol : ℕ) (p : Reducible area c from × AtHand area c h) where
+    abbrev over : List ℕ
+    over = overWords area from (h .head) symbol
+
+    abbrev stored : List ℕ
+    stored = set over (tableAt c 4) (h .marks - 1)
+
+    over-stored : stored ≡ replacedWords area c from symbol
+    unfolding replacedWords
+    over-stored = rw (p .1 .head, p .1 .marks)
+
+    long-over : length over ≡ length area
+    long-over = over-length area from (h .head) symbol (omega (arith, p .0 .top, p .0 .room .room, p .0 .some, p .1 .head))
+
+    abbrev afterOver : Hand
+    afterOver = record { status = h .status; from = h .from; head = h .head; end = h .end; marks = h .marks - 1; reductions = h .reductions; moves = h .moves }
+
+    hand-over : AtHand stored c afterOver
+    hand-over =
+        hand-marks {area = over}
+        (hand-same (p .1) (λ j q l. over-before area from (h .head) symbol j (omega (arith, p .0 .chunk)) (omega (arith, p .0 .some, p .1 .head))
+        (omega (arith, p .0 .top, p .0 .room .room, p .0 .some, p .1 .head))))
+        (h .marks - 1) (omega (arith, long-over, p .0 .chunk, p .0 .room .room))
+
+    -- the reduction can be noted
+    pub over-roomy : Roomy stored × (h .reductions ≡ getD stored 4 0)
+    over-roomy = (rw over-stored (replaced-roomy area c from symbol (p .0)), hand-over .reductions)
+
+    module _ (rule first after : ℕ) where
+      pub over-ticks : getD area 2 0 < 65536 → Ticks (notedWords stored rule first after) (h .moves)
+      over-ticks low =
+          rw over-stored
+          (reduce-ready area c from symbol (p .0) (h .moves) (hand-counted (p .1) (omega (arith, p .0 .room .room)) low (p .0 .few)) rule first after)
+
+      hand-noted : AtHand (notedWords stored rule first after) c
+          (record { status = h .status; from = h .from; head = h .head; end = h .end; marks = h .marks - 1; reductions = h .reductions + 1; moves = h .moves })
+      unfolding notedWords
+      hand-noted =
+          let at : ℕ = madeAtWord stored + 3 * getD stored 4 0 in
+          let far : tableAt c 5 ≤ at = omega (arith, p .0 .chunk, front-over 1 (omega arith)) in
+          rw (hand-over .reductions)
+          (hand-reductions
+          (hand-beyond (hand-beyond (hand-beyond hand-over rule at far) first (at + 1) (omega arith)) after (at + 2) (omega arith))
+          (getD stored 4 0 + 1) (simp length-set (omega (arith, long-over, p .0 .room .room))))
+        where
+          front-over : (j : ℕ) → j < 5 → getD stored j 0 ≡ getD area j 0
+          front-over j l = rw over-stored (replaced-before area c from symbol (p .0) j l)
+
+    long-noted : (rule first after : ℕ) → 5 ≤ length (notedWords stored rule first after)
+    unfolding notedWords
+    long-noted rule first after = simp length-set (omega (arith, long-over, p .0 .room .room))
+
+    pub hand-reduced : (rule : ℕ) →
+        (tickWords (notedWords stored rule (from - 1) (h .head - 1)) ≡ reduceWords area c from symbol rule)
+        × AtHand (tickWords (notedWords stored rule (from - 1) (h .head - 1))) c
+        (record { status = h .status; from = h .from; head = h .head; end = h .end; marks = h .marks - 1; reductions = h .reductions + 1; moves = h .moves + 1 })
+    unfolding reduceWords
+    hand-reduced rule = (
+      rw (p .1 .head) (ap (λ (l : List ℕ). tickWords (notedWords l rule (from - 1) (headOf area c - 1))) (rw (p .1 .head) at over-stored)),
+      hand-ticks (hand-noted rule (from - 1) (h .head - 1)) (long-noted rule (from - 1) (h .head - 1)),
+    )
