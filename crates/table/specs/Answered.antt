@@ -2,15 +2,13 @@
 -- Document 01, "Refusal numbers": "Loading checks 1 to 6 in that order, each over the whole grammar".
 -- Rests on language's Stages and Checks.
 --
--- Main statements: refused, passed; head-refuses, contents-refuse, symbols-decide; symbols-refuse, forms-refuse, twins-decide;
--- head-passed, contents-passed, laid-done.
+-- Main statements: refused, passed; symbols-refuse, laid-done, forms-decide.
 use mathlib.Core.Path.{_≡_, refl, sym, ap, _∙_}
 use mathlib.Core.List.{List, [], _∷_}
 use mathlib.Core.Option.{Option, none, some}
 use Prim.Native.Nat.{ℕ}
 use native.Mathlib.Omega.{arith}
 use Rattle.refusals.specs.declared.Refusal.{Refusal}
-use Rattle.refusals.specs.declared.Answer.{Answer}
 use Rattle.refusals.specs.declared.Answer.the-variants.{Done, Refused}
 use Rattle.language.specs.Stages.{Stage, checked, thenChecked, checked-append}
 use Rattle.language.specs.CheckHead.{headStage}
@@ -19,7 +17,7 @@ use Rattle.language.specs.CheckSymbols.{symbolStage}
 use Rattle.language.specs.CheckForm.{formStage}
 use Rattle.language.specs.CheckTwins.{twinStage}
 use Rattle.language.specs.Checks.{checkSymbols, checkWords}
-use Rattle.table.specs.Laid.{Headed, Laid, headed, laid}
+use Rattle.table.specs.Laid.{Laid, headed, laid}
 
 module _ {Input : Type 0} (input : Input) where
   pub refused : (stage : Stage Input) (later : List (Stage Input)) (v : ℕ) → stage .failsAt input ≡ some v
@@ -45,36 +43,6 @@ abbrev rightStages : List (Stage (List ℕ))
 rightStages = formStage ∷ twinStage ∷ []
 
 module _ (words : List ℕ) where
-  -- a first check that refuses decides, and one that passes leaves it to the later ones
-  decides : (stage : Stage (List ℕ)) (later : List (Stage (List ℕ))) (answer : Answer) → answer ≡ checked (stage ∷ []) words
-      → checked (stage ∷ later) words ≡ thenChecked answer later words
-  decides stage later answer e = checked-append (stage ∷ []) later words ∙ ap (λ a. thenChecked a later words) (sym e)
-
-  -- 1 to 3
-  symbols-are : checkSymbols words ≡ checked symbolStages words
-  unfolding checkSymbols
-  symbols-are = refl
-
-  pub head-refuses : (refusal : Refusal) → Refused refusal ≡ checked (headStage ∷ []) words → Refused refusal ≡ checkSymbols words
-  head-refuses refusal e = sym (symbols-are ∙ decides headStage (contentsStage ∷ symbolStage ∷ []) (Refused refusal) e)
-
-  module _ (h : Done ≡ checked (headStage ∷ []) words) where
-    pub head-passed : Headed words
-    head-passed = headed words (passed-first words headStage [] (sym h) .0)
-
-    after-head : checkSymbols words ≡ checked (contentsStage ∷ symbolStage ∷ []) words
-    after-head = symbols-are ∙ decides headStage (contentsStage ∷ symbolStage ∷ []) Done h
-
-    pub contents-refuse : (refusal : Refusal) → Refused refusal ≡ checked (contentsStage ∷ []) words → Refused refusal ≡ checkSymbols words
-    contents-refuse refusal e = sym (after-head ∙ decides contentsStage (symbolStage ∷ []) (Refused refusal) e)
-
-    module _ (c : Done ≡ checked (contentsStage ∷ []) words) where
-      pub contents-passed : Laid words
-      contents-passed = laid words head-passed (passed-first words contentsStage [] (sym c) .0)
-
-      pub symbols-decide : checked (symbolStage ∷ []) words ≡ checkSymbols words
-      symbols-decide = sym (after-head ∙ decides contentsStage (symbolStage ∷ []) Done c)
-
   -- 1 to 5 is 1 to 3, and then 4 and 5
   words-are : checkWords words ≡ thenChecked (checkSymbols words) rightStages words
   unfolding checkSymbols checkWords
@@ -84,17 +52,15 @@ module _ (words : List ℕ) where
   symbols-refuse refusal e = sym (words-are ∙ ap (λ answer. thenChecked answer rightStages words) (sym e))
 
   module _ (e : Done ≡ checkSymbols words) where
+    symbols-done : checked symbolStages words ≡ Done
+    unfolding checkSymbols
+    symbols-done = sym e
+
     -- the words that pass 1 to 3 are laid
     pub laid-done : Laid words
     laid-done =
-        let a = passed-first words headStage (contentsStage ∷ symbolStage ∷ []) (sym (e ∙ symbols-are)) in
+        let a = passed-first words headStage (contentsStage ∷ symbolStage ∷ []) symbols-done in
         laid words (headed words (a .0)) (passed-first words contentsStage (symbolStage ∷ []) (a .1) .0)
 
-    after-symbols : checkWords words ≡ checked rightStages words
-    after-symbols = words-are ∙ ap (λ answer. thenChecked answer rightStages words) (sym e)
-
-    pub forms-refuse : (refusal : Refusal) → Refused refusal ≡ checked (formStage ∷ []) words → Refused refusal ≡ checkWords words
-    forms-refuse refusal f = sym (after-symbols ∙ decides formStage (twinStage ∷ []) (Refused refusal) f)
-
-    pub twins-decide : Done ≡ checked (formStage ∷ []) words → checked (twinStage ∷ []) words ≡ checkWords words
-    twins-decide f = sym (after-symbols ∙ decides formStage (twinStage ∷ []) Done f)
+    pub forms-decide : checked rightStages words ≡ checkWords words
+    forms-decide = sym (words-are ∙ ap (λ answer. thenChecked answer rightStages words) (sym e))

@@ -3,7 +3,7 @@
 -- bodies in rule order, without gaps"; "each right side 1 to 8 symbols".
 -- Rests on language's Words, CheckHead, CheckContents and WordsInRange.
 --
--- Main definitions: Headed, Laid. Main statements: headed, laid; ends-next, ends-last; rises, within, short.
+-- Main definitions: Headed, Laid, Ended. Main statements: headed, laid, ended; ends-next, ends-last; rises, within, short.
 use mathlib.Core.Path.{_≡_}
 use mathlib.Core.List.{List}
 use Prim.Native.Nat.{ℕ, zero, suc, _+_, _-_, _*_, _≤_, _<_}
@@ -35,6 +35,13 @@ pub record Laid (words : List ℕ) : Type 0 where
   pub first : entry words 0 ≡ 4 + countR words
   pub least : (r : ℕ) → r < countR words → entry words r + 2 ≤ bodyEnd words r
   pub most : (r : ℕ) → r < countR words → bodyEnd words r ≤ entry words r + 9
+
+-- what tells the end of rule r's body is there: its entry, and the next one where there is a next rule
+abbrev pub Ended : List ℕ → ℕ → Type 0
+Ended words r = (4 + r < length words) × (suc r < countR words → 5 + r < length words)
+
+pub ended : {words : List ℕ} → Laid words → {r : ℕ} → r < countR words → Ended words r
+ended l h = (omega (arith, l .present), λ k. omega (arith, l .present))
 
 not-outside : (low high v : ℕ) → (Outside low high v → ⊥) → (low ≤ v) × (v ≤ high)
 not-outside low high v h =

@@ -1,21 +1,17 @@
 -- What loading a grammar and asking a set answer, check by check, after the words have been checked.
 -- Document 01: "Loading checks 1 to 6 in that order, each over the whole grammar, then 11. Asking a set checks 1 to 5, then 21."
--- Rests on language's Loads and Stages, and on Answered and RelationRows.
+-- Rests on language's Loads and Stages, and on Answered.
 --
--- Main definition: tableAnswer.
--- Main statements: refused-load, table-load, done-free; refuses, loads; refused-set, no-such-set, given-set.
-use mathlib.Core.Path.{_≡_, refl, sym, ap, _∙_}
-use mathlib.Core.Bool.{Bool, true, false}
-use mathlib.Core.Option.{Option, none, some}
+-- Main statements: refused-load, conflict-load, room-load, done-load; refuses, loads; refused-set, no-such-set, given-set.
+use mathlib.Core.Path.{_≡_, sym, ap, _∙_}
+use mathlib.Core.Bool.{true}
 use mathlib.Core.List.{List, [], _∷_, _++_}
 use Prim.Native.Nat.{ℕ, _≤_, _<_}
 use native.Mathlib.Omega.{arith}
-use native.Mathlib.Decide.{decLt}
-use lib.Dec.{ltb}
 use lib.ListN.{length, drop}
-use Rattle.laws.specs.Picks.{pick}
-use Rattle.laws.specs.Least.{firstBelow}
-use Rattle.laws.specs.Tests.{lt-ltb, le-leb, lt-leb}
+use Rattle.laws.specs.Tabulate.{tabulate}
+use Rattle.laws.specs.Least.{Clear, first-at, first-nowhere}
+use Rattle.laws.specs.Tests.{lt-ltb, le-ltb, le-leb, lt-leb}
 use Rattle.refusals.specs.declared.Refusal.{Refusal}
 use Rattle.refusals.specs.declared.Refusal.the-variants.{Conflict, NoRoom, NoNonterminal}
 use Rattle.refusals.specs.declared.Answer.{Answer}
@@ -23,38 +19,20 @@ use Rattle.refusals.specs.declared.Answer.the-variants.{Done, Refused}
 use Rattle.language.specs.Grammar.{Grammar}
 use Rattle.language.specs.Words.{countN, grammarOf}
 use Rattle.language.specs.Stages.{Stage, checked, thenChecked, stagesOf, asked, checked-append}
-use Rattle.language.specs.Checks.{checkWords}
+use Rattle.language.specs.Checks.{checkWords, Passed, words-pass}
 use Rattle.language.specs.CheckHead.{headCondition}
 use Rattle.language.specs.CheckContents.{contentsCondition}
 use Rattle.language.specs.CheckSymbols.{symbolCondition}
 use Rattle.language.specs.CheckForm.{formCondition}
 use Rattle.language.specs.CheckTwins.{twinCondition}
 use Rattle.language.specs.SetMasks.{leftSet, leftSize}
-use Rattle.language.specs.Conflicts.{conflictStage}
-use Rattle.language.specs.Matrix.{matrixOf}
+use Rattle.language.specs.Conflicts.{clashAt, conflictStage}
+use Rattle.language.specs.Matrix.{entryAt, matrixOf}
 use Rattle.language.specs.Loads.{LoadInput, conflictCondition, matrixRoom, roomCondition, loadAnswer, loadBytes, loadedBytes, SetInput, pastTheLast, nonterminalCondition, setChecked, setOrRefusal}
 use Rattle.refusals.specs.declared.SetAnswer.the-variants as set
 use Rattle.table.specs.Answered.{refused, passed}
-use Rattle.table.specs.RelationRows.{twoAt}
 
 -- ---- load
-
--- 6 and then 11: what is answered where the search for a conflict finds that, and there are `room` bytes
-abbrev pub fitted : ℕ → Option ℕ → Answer
-fitted room none = pick (ltb room 4096) (Refused (NoRoom 4096)) Done
-fitted room (some v) = Refused (Conflict v)
-
-abbrev pub tableAnswer : List ℕ → ℕ → Answer
-tableAnswer table room = fitted room (firstBelow (twoAt table) 4096)
-
--- where neither is refused there is no conflict, and room
-pub done-free : (room : ℕ) (o : Option ℕ) → Done ≡ fitted room o → (o ≡ none) × (4096 ≤ room)
-done-free room none e = (refl, go (decLt room 4096))
-  where
-    go : Dec (room < 4096) → 4096 ≤ room
-    go (yes h) = let q : Done ≡ Refused (NoRoom 4096) = e ∙ rw (lt-ltb room 4096 h) in let z : _≡_ {A = ℕ} 0 1 = cc in absurd (omega arith)
-    go (no h) = omega arith
-done-free room (some v) e = let z : _≡_ {A = ℕ} 0 1 = cc in absurd (omega arith)
 
 module _ (words : List ℕ) (room : ℕ) where
   abbrev lent : LoadInput
@@ -73,21 +51,26 @@ module _ (words : List ℕ) (room : ℕ) where
   pub refused-load : (refusal : Refusal) → Refused refusal ≡ checkWords words → Refused refusal ≡ loadAnswer words room
   refused-load refusal e = sym (load-is ∙ ap (λ answer. thenChecked answer later lent) (sym e))
 
-  module _ (done : Done ≡ checkWords words) where
+  module _ (passed-words : Passed words) where
     after-words : loadAnswer words room ≡ checked later lent
-    after-words = load-is ∙ ap (λ answer. thenChecked answer later lent) (sym done)
+    after-words = load-is ∙ ap (λ answer. thenChecked answer later lent) (words-pass words .1 passed-words)
 
-    pub table-load : fitted room (conflictStage (grammarOf words)) ≡ loadAnswer words room
-    table-load = sym (after-words ∙ go (conflictStage (grammarOf words)))
-      where
-        room-is : (short : Bool) → _≡_ {A = Answer} (elim (elim short as (λ b. Option ℕ) [ true ↦ some 4096 | false ↦ none ]) [ none ↦ Done | some v ↦ Refused (NoRoom v) ])
-            (pick short (Refused (NoRoom 4096)) Done)
-        room-is true = refl
-        room-is false = refl
+    -- the first conflict refuses
+    pub conflict-load : (v : ℕ) → v < 4096 → Clear (clashAt (grammarOf words)) v → clashAt (grammarOf words) v ≡ true → Refused (Conflict v) ≡ loadAnswer words room
+    unfolding conflictStage
+    conflict-load v h clear e = sym (after-words ∙ refused lent (conflictCondition .stage) (roomCondition .stage ∷ []) v (first-at (clashAt (grammarOf words)) 4096 v h clear e))
 
-        go : (o : Option ℕ) → _≡_ {A = Answer} (elim o [ none ↦ checked (roomCondition .stage ∷ []) lent | some v ↦ Refused (Conflict v) ]) (fitted room o)
-        go none = room-is (ltb room 4096)
-        go (some v) = refl
+    -- where there is none, the room decides
+    module _ (clear : Clear (clashAt (grammarOf words)) 4096) where
+      after-conflicts : loadAnswer words room ≡ checked (roomCondition .stage ∷ []) lent
+      unfolding conflictStage
+      after-conflicts = after-words ∙ passed lent (conflictCondition .stage) (roomCondition .stage ∷ []) (first-nowhere (clashAt (grammarOf words)) 4096 4096 (omega arith) clear)
+
+      pub room-load : room < 4096 → Refused (NoRoom 4096) ≡ loadAnswer words room
+      room-load h = sym (after-conflicts ∙ refused lent (roomCondition .stage) [] 4096 (rw (lt-ltb room 4096 h, matrixRoom)))
+
+      pub done-load : 4096 ≤ room → Done ≡ loadAnswer words room
+      done-load h = sym (after-conflicts ∙ passed lent (roomCondition .stage) [] (rw (le-ltb room 4096 h, matrixRoom)))
 
 -- the answer and the lent bytes afterwards: on a refusal as they were, else the matrix and what stood beyond
 module _ (words bytes : List ℕ) where
@@ -96,10 +79,10 @@ module _ (words bytes : List ℕ) where
   unfolding loadBytes
   refuses refusal e = (e, ap (λ answer. loadedBytes answer words bytes) e)
 
-  pub loads : (left : List ℕ) → Done ≡ loadAnswer words (length bytes) → left ≡ matrixOf (grammarOf words) ++ drop 4096 bytes
+  pub loads : (left table : List ℕ) → Done ≡ loadAnswer words (length bytes) → left ≡ table ++ drop 4096 bytes → table ≡ tabulate (entryAt (grammarOf words)) 4096
       → (Done ≡ loadAnswer words (length bytes)) × (left ≡ loadBytes words bytes)
-  unfolding loadBytes
-  loads left e q = (e, q ∙ ap (λ answer. loadedBytes answer words bytes) e)
+  unfolding loadBytes matrixOf
+  loads left table e q t = (e, q ∙ ap (λ (first : List ℕ). first ++ drop 4096 bytes) t ∙ ap (λ answer. loadedBytes answer words bytes) e)
 
 -- ---- a set
 

@@ -2,7 +2,7 @@
 -- Document 01, "The grammar words" and 3 SYMBOL: "a body word is no nonterminal (left) or no symbol".
 -- Rests on Laid and on language's CheckSymbols.
 --
--- Main definition: Lies. Main statements: lies-next, asked-here, asked-before.
+-- Main definition: Lies. Main statements: lies-first, lies-on, lies-next, asked-here, asked-before.
 use mathlib.Core.Path.{_≡_, refl}
 use mathlib.Core.Bool.{true, false, or-false}
 use mathlib.Core.List.{List}
@@ -41,15 +41,23 @@ module _ (words : List ℕ) (p r : ℕ) where
       let d : p ≡ entry words r → ⊥ = omega arith in
       rw (ne-eqb p (entry words r) d, lt-ltb (entry words r) p h, le-ltb p (bodyEnd words r) k)
 
+-- before its end the body goes on
+pub lies-on : {words : List ℕ} {p r : ℕ} → Lies words p r → p + 1 < bodyEnd words r → Lies words (p + 1) r
+lies-on here h = record { rule = here .rule; starts = omega (arith, here .starts); ends = h }
+
 module _ (words : List ℕ) (l : Laid words) where
+  -- the first body starts after the entries
+  pub lies-first : Lies words (4 + countR words) 0
+  lies-first = let some : 0 < countR words = l .headed .some-rule in record { rule = some; starts = omega (arith, l .first); ends = omega (arith, l .first, l .least 0 some) }
+
   -- just past a body the next one starts
-  pub lies-next : (p r : ℕ) → r < countR words → p < length words → bodyEnd words r ≡ p → Lies words p (r + 1)
-  lies-next p r h k e = go (decLt (suc r) (countR words))
+  pub lies-next : {p r : ℕ} → Lies words p r → bodyEnd words r ≤ p + 1 → p + 1 < length words → Lies words (p + 1) (r + 1)
+  lies-next {p} {r} here e k = go (decLt (suc r) (countR words))
     where
-      go : Dec (suc r < countR words) → Lies words p (r + 1)
+      go : Dec (suc r < countR words) → Lies words (p + 1) (r + 1)
       go (yes i) =
           let q = ends-next words r i in
-          rw (add-one r) (record { rule = i; starts = omega arith; ends = omega (arith, l .least (suc r) i) })
+          rw (add-one r) (record { rule = i; starts = omega arith; ends = omega (arith, here .ends, l .least (suc r) i) })
       go (no i) = absurd (omega (arith, ends-last words r (omega arith)))
 
   -- a place of rule r's body is asked there and nowhere else

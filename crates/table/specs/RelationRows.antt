@@ -3,15 +3,13 @@
 -- #; # equals #. blank (0): none of these"; 6 CONFLICT "a pair has two relations", "least 64a + b".
 -- Rests on Shown, and on language's RelationTests, RelationPairs, Conflicts and Matrix.
 --
--- Main definitions: shownIn, Seen, endTest, Union, testOf, Shows, numberOf, entryIn, markedAt, twoAt.
--- Main statements: ends-seen, seen-more, shows, marked, conflict-is, matrix-is.
+-- Main definitions: shownIn, Seen, endTest, Union, testOf, Shows, pairNumber, entryIn, markedAt.
+-- Main statements: ends-seen, seen-more, shows, entry-is, marked-clash, marked-free, marked-matrix.
 use mathlib.Core.Path.{_≡_, refl, sym, ap, ap₂, _∙_, fun-ext}
 use mathlib.Core.Bool.{Bool, true, false, _&&_, _||_, or-true, or-false, or-comm, or-assoc}
-use mathlib.Core.Option.{Option, none, some}
 use mathlib.Core.List.{List, [], _∷_, _++_}
-use Prim.Native.Nat.{ℕ, zero, suc, _+_, _*_, _/_, _%_, _≤_, _<_}
+use Prim.Native.Nat.{ℕ, zero, suc, _+_, _/_, _%_, _≤_, _<_}
 use native.Mathlib.Omega.{arith}
-use native.Mathlib.Nat.{zero-add}
 use native.Mathlib.Numerals.{add-one}
 use native.Mathlib.Decide.{ℕ-discrete}
 use lib.Dec.{eqb}
@@ -19,7 +17,7 @@ use lib.ListN.{length, getD, set, replicate, length-replicate, length-set}
 use lib.Seq.{getD-set-same, getD-set-other}
 use Rattle.laws.specs.Picks.{pick}
 use Rattle.laws.specs.Tests.{any, any-cons, upTo, anyBelow, not-both, false-unless, eq-eqb, ne-eqb}
-use Rattle.laws.specs.Least.{firstBelow, firstBelow-some, firstBelow-none}
+use Rattle.laws.specs.Least.{Clear}
 use Rattle.laws.specs.Tabulate.{tabulate, tabulateFrom, getD-tabulate}
 use Rattle.laws.specs.Masks.{bit, bit-pow}
 use Rattle.language.specs.Symbols.{Symbol, Relation, blank, yields, equal, takes, relationNumber}
@@ -28,8 +26,8 @@ use Rattle.language.specs.RightSides.{Pattern, this, one, fits, somewhere}
 use Rattle.language.specs.SetMasks.{InRange, leftMember}
 use Rattle.language.specs.RelationTests.{equalTest, yieldsTest, takesTest, startsAxiom, endsAxiom, inUse, firstOf, relationOf, equal-exactly, yields-exactly, takes-exactly}
 use Rattle.language.specs.RelationPairs.{in-use, equal-pair, yields-pair, takes-pair}
-use Rattle.language.specs.Conflicts.{twoOf, clash, clashAt, conflictStage}
-use Rattle.language.specs.Matrix.{entryAt, matrixOf}
+use Rattle.language.specs.Conflicts.{twoOf, clash, clashAt}
+use Rattle.language.specs.Matrix.{entryAt}
 use Rattle.table.specs.MaskRows.{none-bit}
 use Rattle.table.specs.Shown.{holds, Adds, here, anywhere, row-same}
 use Rattle.table.specs.SetPasses.{AreSets}
@@ -57,8 +55,8 @@ shownIn g k a b r = anywhere (here g k a b) (ruleAt g r .right)
 
 -- the rows say what is said of # and the axioms, and what the first r rules show
 pub record Seen (g : Grammar) (r : ℕ) (rows : List ℕ) : Type 0 where
-  pub long : length rows ≡ 256
-  pub says : (k : Relation) (a b : ℕ) → holds rows k a b ≡ (endTest g k a b || any (shownIn g k a b) (upTo r))
+  pub long : length rows ≡ 192
+  pub says : (k : Relation) (a b : ℕ) → a < 64 → b < 64 → holds rows k a b ≡ (endTest g k a b || any (shownIn g k a b) (upTo r))
 
 module _ (test : ℕ → Bool) where
   any-snoc : (l : List ℕ) (n : ℕ) → any test (l ++ (n ∷ [])) ≡ (any test l || test n)
@@ -77,8 +75,8 @@ module _ (test : ℕ → Bool) where
 pub seen-more : {g : Grammar} {r : ℕ} {rows after : List ℕ} → Seen g r rows → Adds (λ k a b. shownIn g k a b r) rows after → Seen g (r + 1) after
 seen-more {g} {r} seen adds = record {
   long = adds .long;
-  says = λ k a b.
-      adds .says k a b ∙ ap (λ t. t || shownIn g k a b r) (seen .says k a b) ∙ or-assoc (endTest g k a b) (any (shownIn g k a b) (upTo r)) (shownIn g k a b r)
+  says = λ k a b i j.
+      adds .says k a b i j ∙ ap (λ t. t || shownIn g k a b r) (seen .says k a b i j) ∙ or-assoc (endTest g k a b) (any (shownIn g k a b) (upTo r)) (shownIn g k a b r)
       ∙ ap (λ t. endTest g k a b || t) (rw (add-one r) (sym (any-snoc (shownIn g k a b) (upTo r) r)));
 }
 
@@ -94,43 +92,41 @@ set-kept : (rows : List ℕ) (i m x t : ℕ) → (x ≡ i → ⊥) → bit (getD
 set-kept rows i m x t n = ap (λ (row : ℕ). bit row t) (getD-set-other rows i x m 0 n)
 
 -- the rows of #, from rows that say nothing
-ends-from : (g : Grammar) (left right : List ℕ) → AreSets g left right → (blanks : List ℕ) → length blanks ≡ 256 → ((x t : ℕ) → bit (getD blanks x 0) t ≡ false)
-    → (m n : ℕ) → Union left (g .axioms) m → Union right (g .axioms) n → Seen g 0 (set (set (set blanks 1 m) 2 1) 3 n)
+ends-from : (g : Grammar) (left right : List ℕ) → AreSets g left right → (blanks : List ℕ) → length blanks ≡ 192 → ((x t : ℕ) → bit (getD blanks x 0) t ≡ false)
+    → (m n : ℕ) → Union left (g .axioms) m → Union right (g .axioms) n → Seen g 0 (set (set (set blanks 0 1) 64 m) 128 n)
 ends-from g left right sets blanks long empty m n um un = record { long = all-long; says = says }
   where
-    first-long : length (set blanks 1 m) ≡ 256
-    first-long = length-set blanks 1 m ∙ long
+    first-long : length (set blanks 0 1) ≡ 192
+    first-long = length-set blanks 0 1 ∙ long
 
-    second-long : length (set (set blanks 1 m) 2 1) ≡ 256
-    second-long = length-set (set blanks 1 m) 2 1 ∙ first-long
+    second-long : length (set (set blanks 0 1) 64 m) ≡ 192
+    second-long = length-set (set blanks 0 1) 64 m ∙ first-long
 
-    all-long : length (set (set (set blanks 1 m) 2 1) 3 n) ≡ 256
-    all-long = length-set (set (set blanks 1 m) 2 1) 3 n ∙ second-long
+    all-long : length (set (set (set blanks 0 1) 64 m) 128 n) ≡ 192
+    all-long = length-set (set (set blanks 0 1) 64 m) 128 n ∙ second-long
 
-    -- row 4a + k is that of # where a is 0
-    at : (rows : List ℕ) (k m a t : ℕ) (test : Bool) → k < length rows → bit (getD rows (4 * a + k) 0) t ≡ false → bit m t ≡ test
-        → bit (getD (set rows k m) (4 * a + k) 0) t ≡ ((eqb a 0 && test) || false)
-    at rows k m a t test h bare e =
-        let same : eqb (4 * a + k) k ≡ eqb a 0 = simp zero-add at (row-same k a 0) in
-        set-bit rows k m (4 * a + k) t h bare ∙ ap (λ s. s && bit m t) same ∙ ap (λ s. eqb a 0 && s) e ∙ sym (or-false (eqb a 0 && test))
+    -- row x is that of #, row k, where a is 0
+    at : (rows : List ℕ) (k m x a t : ℕ) (test : Bool) → eqb x k ≡ eqb a 0 → k < length rows → bit (getD rows x 0) t ≡ false → bit m t ≡ test
+        → bit (getD (set rows k m) x 0) t ≡ ((eqb a 0 && test) || false)
+    at rows k m x a t test same h bare e = set-bit rows k m x t h bare ∙ ap (λ s. s && bit m t) same ∙ ap (λ s. eqb a 0 && s) e ∙ sym (or-false (eqb a 0 && test))
 
-    says : (k : Relation) (a b : ℕ) → holds (set (set (set blanks 1 m) 2 1) 3 n) k a b ≡ (endTest g k a b || false)
-    says blank a b = refl
-    says yields a b =
-        set-kept (set (set blanks 1 m) 2 1) 3 n (4 * a + 1) b (omega arith) ∙ set-kept (set blanks 1 m) 2 1 (4 * a + 1) b (omega arith)
-        ∙ at blanks 1 m a b (startsAxiom g b) (omega arith) (empty (4 * a + 1) b)
+    says : (k : Relation) (a b : ℕ) → a < 64 → b < 64 → holds (set (set (set blanks 0 1) 64 m) 128 n) k a b ≡ (endTest g k a b || false)
+    says blank a b i j = refl
+    says equal a b i j =
+        set-kept (set (set blanks 0 1) 64 m) 128 n a b (omega arith) ∙ set-kept (set blanks 0 1) 64 m a b (omega arith)
+        ∙ at blanks 0 1 a a b (eqb b 0) refl (omega arith) (empty a b) (bit-pow 0 b)
+    says yields a b i j =
+        set-kept (set (set blanks 0 1) 64 m) 128 n (64 + a) b (omega arith)
+        ∙ at (set blanks 0 1) 64 m (64 + a) a b (startsAxiom g b) (row-same 64 a 0) (omega (arith, first-long)) (set-kept blanks 0 1 (64 + a) b (omega arith) ∙ empty (64 + a) b)
         (um b ∙ any-below-same (λ x. bit (getD left x 0) b) (λ x. leftMember g x b) (λ x. sets .lefts x b) (g .axioms))
-    says equal a b =
-        set-kept (set (set blanks 1 m) 2 1) 3 n (4 * a + 2) b (omega arith)
-        ∙ at (set blanks 1 m) 2 1 a b (eqb b 0) (omega (arith, first-long)) (set-kept blanks 1 m (4 * a + 2) b (omega arith) ∙ empty (4 * a + 2) b) (bit-pow 0 b)
-    says takes a b =
-        at (set (set blanks 1 m) 2 1) 3 n b a (endsAxiom g a) (omega (arith, second-long))
-        (set-kept (set blanks 1 m) 2 1 (4 * b + 3) a (omega arith) ∙ set-kept blanks 1 m (4 * b + 3) a (omega arith) ∙ empty (4 * b + 3) a)
+    says takes a b i j =
+        at (set (set blanks 0 1) 64 m) 128 n (128 + b) b a (endsAxiom g a) (row-same 128 b 0) (omega (arith, second-long))
+        (set-kept (set blanks 0 1) 64 m (128 + b) a (omega arith) ∙ set-kept blanks 0 1 (128 + b) a (omega arith) ∙ empty (128 + b) a)
         (un a ∙ any-below-same (λ x. bit (getD right x 0) a) (λ x. leftMember (mirrored g) x a) (λ x. sets .rights x a) (g .axioms))
 
 pub ends-seen : (g : Grammar) (left right : List ℕ) → AreSets g left right → (m n : ℕ) → Union left (g .axioms) m → Union right (g .axioms) n
-    → Seen g 0 (set (set (set (replicate 256 0) 1 m) 2 1) 3 n)
-ends-seen g left right sets = ends-from g left right sets (replicate 256 0) (length-replicate {A = ℕ} 256 0) (none-bit 256)
+    → Seen g 0 (set (set (set (replicate 192 0) 0 1) 64 m) 128 n)
+ends-seen g left right sets = ends-from g left right sets (replicate 192 0) (length-replicate {A = ℕ} 192 0) (none-bit 192)
 
 -- ---- the relations
 
@@ -142,7 +138,7 @@ testOf g takes a b = takesTest g a b
 
 -- the rows are the relations
 abbrev pub Shows : Grammar → List ℕ → Type 0
-Shows g rows = (k : Relation) (a b : ℕ) → holds rows k a b ≡ testOf g k a b
+Shows g rows = (k : Relation) (a b : ℕ) → a < 64 → b < 64 → holds rows k a b ≡ testOf g k a b
 
 -- what is shown anywhere, as language's tests say it
 somewhere-is : (ps : List Pattern) (w : List Symbol) → anywhere (fits ps) w ≡ somewhere ps w
@@ -177,11 +173,11 @@ shows {g} {rows} seen = by-kind
     all : List ℕ
     all = inPlay g
 
-    by : (k : Relation) (a b : ℕ) (test : Bool) → any (shownIn g k a b) all ≡ test → holds rows k a b ≡ (test || endTest g k a b)
-    by k a b test e = seen .says k a b ∙ ap (λ t. endTest g k a b || t) e ∙ or-comm (endTest g k a b) test
+    by : (k : Relation) (a b : ℕ) (test : Bool) → any (shownIn g k a b) all ≡ test → a < 64 → b < 64 → holds rows k a b ≡ (test || endTest g k a b)
+    by k a b test e i j = seen .says k a b i j ∙ ap (λ t. endTest g k a b || t) e ∙ or-comm (endTest g k a b) test
 
-    by-kind : (k : Relation) (a b : ℕ) → holds rows k a b ≡ testOf g k a b
-    by-kind blank a b = refl
+    by-kind : (k : Relation) (a b : ℕ) → a < 64 → b < 64 → holds rows k a b ≡ testOf g k a b
+    by-kind blank a b = λ i j. refl
     by-kind yields a b = by yields a b _ (any-same _ _ (λ r. somewhere-is (this a ∷ one (λ d. leftMember g d b) ∷ []) (right r)) all)
     by-kind equal a b = by equal a b _
         (any-same _ _ (λ r. either-is (this a ∷ this b ∷ []) (this a ∷ one (λ k. true) ∷ this b ∷ []) (right r)) all
@@ -191,22 +187,28 @@ shows {g} {rows} seen = by-kind
 -- ---- conflicts and entries
 
 -- the relation's number, and 4 for two relations
-abbrev pub numberOf : Bool → Bool → Bool → ℕ
-numberOf e y t = pick (twoOf e y t) 4 (relationNumber (firstOf e y t))
+abbrev pub pairNumber : Bool → Bool → Bool → ℕ
+pairNumber e y t = pick (twoOf e y t) 4 (relationNumber (firstOf e y t))
 
 -- two of the three, as code asks it
-pub two-is : (e y t : Bool) → ((e && y) || (e && t) || (y && t)) ≡ twoOf e y t
+pub two-is : (e y t : Bool) → ((e && (y || t)) || (y && t)) ≡ twoOf e y t
 two-is true true t = refl
 two-is true false t = or-false t
 two-is false true t = refl
 two-is false false t = refl
 
 abbrev pub entryIn : List ℕ → ℕ → ℕ
-entryIn rows v = numberOf (holds rows equal (v / 64) (v % 64)) (holds rows yields (v / 64) (v % 64)) (holds rows takes (v / 64) (v % 64))
+entryIn rows v = pairNumber (holds rows equal (v / 64) (v % 64)) (holds rows yields (v / 64) (v % 64)) (holds rows takes (v / 64) (v % 64))
 
 -- the matrix's entry, and 4 for a conflict
 abbrev pub markedAt : Grammar → ℕ → ℕ
 markedAt g v = pick (clashAt g v) 4 (entryAt g v)
+
+number-small : (r : Relation) → relationNumber r ≤ 3
+number-small blank = omega arith
+number-small yields = omega arith
+number-small equal = omega arith
+number-small takes = omega arith
 
 module _ {g : Grammar} (range : InRange g) where
   -- an unused pair has no relation
@@ -235,49 +237,38 @@ module _ {g : Grammar} (range : InRange g) where
       go true e = refl
       go false e = rw (unused a b e equal, unused a b e yields, unused a b e takes)
 
-  pub marked : (rows : List ℕ) → Shows g rows → (n : ℕ) → tabulate (entryIn rows) n ≡ tabulate (markedAt g) n
-  marked rows are n = ap (λ (entry : ℕ → ℕ). tabulate entry n) (fun-ext same)
+  -- the rows have the matrix's entries, and 4 for a conflict
+  pub entry-is : (rows : List ℕ) → Shows g rows → (v : ℕ) → v < 4096 → entryIn rows v ≡ markedAt g v
+  entry-is rows are v h =
+      let i : v / 64 < 64 = omega arith in
+      let j : v % 64 < 64 = omega arith in
+      rw (are equal (v / 64) (v % 64) i j, are yields (v / 64) (v % 64) i j, are takes (v / 64) (v % 64) i j)
+      (ap₂ (λ (two : Bool) (entry : ℕ). pick two 4 entry) (clash-is (v / 64) (v % 64)) (ap relationNumber (relation-is (v / 64) (v % 64))))
+
+-- in the table 4 tells a conflict, and the other numbers that there is none
+module _ (g : Grammar) (table : List ℕ) (is : table ≡ tabulate (markedAt g) 4096) (v : ℕ) (h : v < 4096) where
+  marked-at : getD table v 0 ≡ pick (clashAt g v) 4 (entryAt g v)
+  marked-at = ap (λ (t : List ℕ). getD t v 0) is ∙ getD-tabulate (markedAt g) 4096 v 0 h
+
+  pub marked-clash : getD table v 0 ≡ 4 → clashAt g v ≡ true
+  marked-clash e = go (clashAt g v) (sym marked-at ∙ e)
     where
-      same : (v : ℕ) → entryIn rows v ≡ markedAt g v
-      same v =
-          rw (are equal (v / 64) (v % 64), are yields (v / 64) (v % 64), are takes (v / 64) (v % 64))
-          (ap₂ (λ (two : Bool) (entry : ℕ). pick two 4 entry) (clash-is (v / 64) (v % 64)) (ap relationNumber (relation-is (v / 64) (v % 64))))
+      go : (two : Bool) → pick two 4 (entryAt g v) ≡ 4 → two ≡ true
+      go true q = refl
+      go false q = absurd (omega (arith, number-small (relationOf g (v / 64) (v % 64))))
 
--- the table has a conflict at v
-abbrev pub twoAt : List ℕ → ℕ → Bool
-twoAt table v = eqb (getD table v 0) 4
+  pub marked-free : (getD table v 0 ≡ 4 → ⊥) → clashAt g v ≡ false
+  marked-free d = go (clashAt g v) marked-at
+    where
+      go : (two : Bool) → getD table v 0 ≡ pick two 4 (entryAt g v) → two ≡ false
+      go true q = absurd (d q)
+      go false q = refl
 
--- searches, and lists, of what is the same below n
-first-same : (f h : ℕ → Bool) (n : ℕ) → ((i : ℕ) → i < n → f i ≡ h i) → firstBelow f n ≡ firstBelow h n
-first-same f h n same = go (firstBelow h n) refl
-  where
-    go : (o : Option ℕ) → firstBelow h n ≡ o → firstBelow f n ≡ o
-    go none e = firstBelow-none f n .1 (λ i l. same i l ∙ firstBelow-none h n .0 e i l)
-    go (some v) e =
-        let w = firstBelow-some h n v .0 e in
-        firstBelow-some f n v .1 (record { holds = (w .holds .0, same v (w .holds .0) ∙ w .holds .1); least = λ u l p. w .least u l (p .0, sym (same u (p .0)) ∙ p .1) })
-
+-- lists of what is the same below n
 from-same : (f h : ℕ → ℕ) (n i : ℕ) → ((k : ℕ) → k < i + n → f k ≡ h k) → tabulateFrom f n i ≡ tabulateFrom h n i
 from-same f h zero i same = refl
 from-same f h (suc n) i same = ap₂ (λ (x : ℕ) (l : List ℕ). x ∷ l) (same i (omega arith)) (from-same f h n (suc i) (λ k l. same k (omega arith)))
 
-number-small : (r : Relation) → relationNumber r ≤ 3
-number-small blank = omega arith
-number-small yields = omega arith
-number-small equal = omega arith
-number-small takes = omega arith
-
-four : (two : Bool) (r : Relation) → eqb (pick two 4 (relationNumber r)) 4 ≡ two
-four true r = refl
-four false r = ne-eqb (relationNumber r) 4 (λ e. omega (arith, number-small r))
-
-module _ (g : Grammar) where
-  pub conflict-is : (table : List ℕ) → table ≡ tabulate (markedAt g) 4096 → firstBelow (twoAt table) 4096 ≡ conflictStage g
-  unfolding conflictStage
-  conflict-is table is = first-same (twoAt table) (clashAt g) 4096
-      (λ v h. ap (λ (t : List ℕ). twoAt t v) is ∙ ap (λ (entry : ℕ). eqb entry 4) (getD-tabulate (markedAt g) 4096 v 0 h) ∙ four (clashAt g v) (relationOf g (v / 64) (v % 64)))
-
-  pub matrix-is : conflictStage g ≡ none → tabulate (markedAt g) 4096 ≡ matrixOf g
-  unfolding conflictStage matrixOf
-  matrix-is free = from-same (markedAt g) (entryAt g) 4096 0
-      (λ v h. ap (λ (two : Bool). pick two 4 (entryAt g v)) (firstBelow-none (clashAt g) 4096 .0 free v h))
+-- where no pair has two relations the table is the matrix
+pub marked-matrix : (g : Grammar) → Clear (clashAt g) 4096 → tabulate (markedAt g) 4096 ≡ tabulate (entryAt g) 4096
+marked-matrix g clear = from-same (markedAt g) (entryAt g) 4096 0 (λ v h. ap (λ (two : Bool). pick two 4 (entryAt g v)) (clear v (omega arith)))

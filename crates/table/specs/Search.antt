@@ -3,7 +3,7 @@
 -- Rests on laws' Least and Tests, and on language's Stages.
 --
 -- Main definition, of laws: Clear.
--- Main statements: found-at, found-nowhere (what a check answers whose search finds that), fails-below, clear-below (a search that answers yes
+-- Main statements: found-at, found-nowhere (what is answered where the search finds that), fails-below, clear-below (a search that answers yes
 -- or no).
 use mathlib.Core.Path.{_≡_, sym, ap}
 use mathlib.Core.Bool.{Bool, true, false}
@@ -14,15 +14,16 @@ use Rattle.laws.specs.Least.{firstBelow, first-at, first-nowhere}
 pub use Rattle.laws.specs.Least.{Clear, clear-none, clear-more}
 use Rattle.laws.specs.Tests.{not-both, false-unless, anyBelow, anyBelow-iff}
 use Rattle.refusals.specs.declared.Refusal.{Refusal}
-use Rattle.refusals.specs.declared.Answer.the-variants.{Done, Refused}
+use Rattle.refusals.specs.declared.Answer.{Answer}
+use Rattle.refusals.specs.declared.Answer.the-variants.{Refused}
 use Rattle.language.specs.Stages.{refusedBy}
 
 module _ (fails : ℕ → Bool) where
-  pub found-at : (refusal : ℕ → Refusal) (n i : ℕ) → i < n → Clear fails i → fails i ≡ true → Refused (refusal i) ≡ refusedBy refusal (firstBelow fails n) Done
-  found-at refusal n i h clear e = ap (λ (found : Option ℕ). refusedBy refusal found Done) (sym (first-at fails n i h clear e))
+  pub found-at : (refusal : ℕ → Refusal) (later : Answer) (n i : ℕ) → i < n → Clear fails i → fails i ≡ true → Refused (refusal i) ≡ refusedBy refusal (firstBelow fails n) later
+  found-at refusal later n i h clear e = ap (λ (found : Option ℕ). refusedBy refusal found later) (sym (first-at fails n i h clear e))
 
-  pub found-nowhere : (refusal : ℕ → Refusal) (n i : ℕ) → n ≤ i → Clear fails i → Done ≡ refusedBy refusal (firstBelow fails n) Done
-  found-nowhere refusal n i h clear = ap (λ (found : Option ℕ). refusedBy refusal found Done) (sym (first-nowhere fails n i h clear))
+  pub found-nowhere : (refusal : ℕ → Refusal) (later : Answer) (n i : ℕ) → n ≤ i → Clear fails i → later ≡ refusedBy refusal (firstBelow fails n) later
+  found-nowhere refusal later n i h clear = ap (λ (found : Option ℕ). refusedBy refusal found later) (sym (first-nowhere fails n i h clear))
 
   -- a search that only asks whether the check fails
   pub fails-below : (n i : ℕ) → i < n → fails i ≡ true → true ≡ anyBelow fails n

@@ -124,21 +124,13 @@ module _ {rule : List ℕ → ℕ → List ℕ} {old new : List ℕ} {r : ℕ} w
   has-rested (rests e k) p = rw e k
   has-rested (grows l) p = absurd (true≢false p)
 
--- rule r after them: what is so afterwards where it has changed a mask, and where it has not
-module _ (rule : List ℕ → ℕ → List ℕ) (old masks new : List ℕ) (r : ℕ) (is : new ≡ rule masks r) where
-  pub grown-more : {before now b : Bool} → Grown rule old masks r before → Changed masks new b → b ≡ true → now ≡ true → Grown rule old new (r + 1) now
-  grown-more g c e e′ = rw e′ (go g (rw e at c))
-    where
-      go : {past : Bool} → Grown rule old masks r past → Changed masks new true → Grown rule old new (r + 1) true
-      go (rests f k) (more l) = grows (omega (arith, ap total f))
-      go (grows m) (more l) = grows (omega arith)
-
-  pub grown-same : {before now b : Bool} → Grown rule old masks r before → Changed masks new b → b ≡ false → now ≡ before → Grown rule old new (r + 1) now
-  grown-same g c e e′ = rw e′ (go g (rw e at c))
-    where
-      go : {past : Bool} → Grown rule old masks r past → Changed masks new false → Grown rule old new (r + 1) past
-      go (rests f k) (same q) = rests (q ∙ f) (below-more (λ n. rule old n ≡ old) r k (rw f at (sym is ∙ q)))
-      go (grows m) (same q) = grows (omega (arith, ap total q))
+-- rule r after them
+pub grown-more : (rule : List ℕ → ℕ → List ℕ) (old masks new : List ℕ) (r : ℕ) → new ≡ rule masks r → {before now : Bool} → Grown rule old masks r before → Changed masks new now
+    → Grown rule old new (r + 1) (before || now)
+grown-more rule old masks new r is (rests f k) (same q) = rests (q ∙ f) (below-more (λ n. rule old n ≡ old) r k (rw f at (sym is ∙ q)))
+grown-more rule old masks new r is (rests f k) (more l) = grows (omega (arith, ap total f))
+grown-more rule old masks new r is (grows m) (same q) = grows (omega (arith, ap total q))
+grown-more rule old masks new r is (grows m) (more l) = grows (omega arith)
 
 module _ {g : Grammar} {count : ℕ} {left : ℕ → ℕ} {right : ℕ → List ℕ} (rules : RulesOf g count left right) where
   abbrev rule : List ℕ → ℕ → List ℕ

@@ -11,7 +11,7 @@
 use mathlib.Core.Path.{_≡_, refl, sym, ap, ap₂, _∙_}
 use mathlib.Core.Bool.{Bool, true, false, _&&_, _||_, or-assoc, or-false, and-false, and-comm}
 use mathlib.Core.List.{List, [], _∷_, map}
-use Prim.Native.Nat.{ℕ, suc, _+_, _-_, _*_, _^_, _≤_, _<_}
+use Prim.Native.Nat.{ℕ, suc, _+_, _-_, _^_, _≤_, _<_}
 use native.Mathlib.Omega.{arith}
 use native.Mathlib.Decide.{decLt, ℕ-discrete}
 use lib.Dec.{eqb, leb}
@@ -34,14 +34,14 @@ use Rattle.table.specs.SetPasses.{AreSets}
 -- the rows say that a stands in this relation to b
 abbrev pub holds : List ℕ → Relation → ℕ → ℕ → Bool
 holds rows blank a b = false
-holds rows yields a b = bit (getD rows (4 * a + 1) 0) b
-holds rows equal a b = bit (getD rows (4 * a + 2) 0) b
-holds rows takes a b = bit (getD rows (4 * b + 3) 0) a
+holds rows yields a b = bit (getD rows (64 + a) 0) b
+holds rows equal a b = bit (getD rows a 0) b
+holds rows takes a b = bit (getD rows (128 + b) 0) a
 
--- the rows afterwards, 256 of them, say what they said before, and what the tests say
+-- the rows afterwards, 192 of them, say what they said before, and what the tests say
 pub record Adds (tests : Relation → ℕ → ℕ → Bool) (before after : List ℕ) : Type 0 where
-  pub long : length after ≡ 256
-  pub says : (k : Relation) (a b : ℕ) → holds after k a b ≡ (holds before k a b || tests k a b)
+  pub long : length after ≡ 192
+  pub says : (k : Relation) (a b : ℕ) → a < 64 → b < 64 → holds after k a b ≡ (holds before k a b || tests k a b)
 
 -- ---- one pair of neighbours
 
@@ -63,15 +63,15 @@ pub record Paired (a b : ℕ) : Type 0 where
 -- what the pair a, b shows: the row that gains, and the members it gains
 abbrev pub shownBy : List ℕ → List ℕ → ℕ → ℕ → Added
 shownBy left right a b =
-    pick (leb 256 a) (record { row = 4 * b + 3; mask = getD right (a - 256) 0 })
-    (pick (leb 256 b) (record { row = 4 * a + 1; mask = getD left (b - 256) 0 })
-    (record { row = 4 * a + 2; mask = 2 ^ b }))
+    pick (leb 256 a) (record { row = 128 + b; mask = getD right (a - 256) 0 })
+    (pick (leb 256 b) (record { row = 64 + a; mask = getD left (b - 256) 0 })
+    (record { row = a; mask = 2 ^ b }))
 
--- that row is one of the 256
-pub row-below : (left right : List ℕ) (a b : ℕ) → Paired a b → shownBy left right a b .row < 256
+-- that row is one of the 192
+pub row-below : (left right : List ℕ) (a b : ℕ) → Paired a b → shownBy left right a b .row < 192
 row-below left right a b p = go (decLt a 256) (decLt b 256)
   where
-    go : Dec (a < 256) → Dec (b < 256) → shownBy left right a b .row < 256
+    go : Dec (a < 256) → Dec (b < 256) → shownBy left right a b .row < 192
     go (yes h) (yes l) = rw (lt-leb 256 a h, lt-leb 256 b l) (omega (arith, p .first-terminal h))
     go (yes h) (no l) = rw (lt-leb 256 a h, le-leb 256 b (omega arith)) (omega (arith, p .first-terminal h))
     go (no h) l = rw (le-leb 256 a (omega arith)) (omega (arith, p .second (omega arith)))
@@ -136,7 +136,7 @@ module _ (g : Grammar) (a b : ℕ) (x y : Symbol) (w : List Symbol) where
 kept : (old new : Bool) → new ≡ false → old ≡ (old || new)
 kept old new e = sym (ap (λ t. old || t) e ∙ or-false old)
 
-row-gains : (rows : List ℕ) (i m x t : ℕ) (new : Bool) → length rows ≡ 256 → i < 256 → (eqb x i && bit m t) ≡ new
+row-gains : (rows : List ℕ) (i m x t : ℕ) (new : Bool) → length rows ≡ 192 → i < 192 → (eqb x i && bit m t) ≡ new
     → bit (getD (gains rows i m) x 0) t ≡ (bit (getD rows x 0) t || new)
 row-gains rows i m x t new long h e = gains-bit rows i m x t (omega arith) ∙ ap (λ n. bit (getD rows x 0) t || n) e
 
@@ -145,52 +145,52 @@ row-kept : (rows : List ℕ) (i m x t : ℕ) → (x ≡ i → ⊥) → bit (getD
 row-kept rows i m x t n = ap (λ (row : ℕ). bit row t) (getD-set-other rows i x (bitOr (getD rows i 0) m) 0 n)
 
 -- the rows of one relation are told apart by their terminals
-pub row-same : (k a u : ℕ) → eqb (4 * a + k) (4 * u + k) ≡ eqb a u
+pub row-same : (k a u : ℕ) → eqb (k + a) (k + u) ≡ eqb a u
 row-same k a u = go (ℕ-discrete a u)
   where
-    go : Dec (a ≡ u) → eqb (4 * a + k) (4 * u + k) ≡ eqb a u
-    go (yes e) = rw (e, eq-eqb u u refl, eq-eqb (4 * u + k) (4 * u + k) refl)
-    go (no n) = let far : 4 * a + k ≡ 4 * u + k → ⊥ = λ e. n (omega arith) in rw (ne-eqb a u n, ne-eqb (4 * a + k) (4 * u + k) far)
+    go : Dec (a ≡ u) → eqb (k + a) (k + u) ≡ eqb a u
+    go (yes e) = rw (e, eq-eqb u u refl, eq-eqb (k + u) (k + u) refl)
+    go (no n) = let far : k + a ≡ k + u → ⊥ = λ e. n (omega arith) in rw (ne-eqb a u n, ne-eqb (k + a) (k + u) far)
 
-gains-long : (rows : List ℕ) (i m : ℕ) → length rows ≡ 256 → length (gains rows i m) ≡ 256
+gains-long : (rows : List ℕ) (i m : ℕ) → length rows ≡ 192 → length (gains rows i m) ≡ 192
 gains-long rows i m long = length-set rows i (bitOr (getD rows i 0) m) ∙ long
 
-module _ (g : Grammar) (left right : List ℕ) (sets : AreSets g left right) (rows : List ℕ) (long : length rows ≡ 256) where
-  -- row 4u + k gains the terminal v, as relation k says it
-  equal-gains : (now : List ℕ) → length now ≡ 256 → (u v : ℕ) → u < 64 → (a b : ℕ) (new : Bool) → (eqb a u && eqb b v) ≡ new
-      → holds (gains now (4 * u + 2) (2 ^ v)) equal a b ≡ (holds now equal a b || new)
+module _ (g : Grammar) (left right : List ℕ) (sets : AreSets g left right) (rows : List ℕ) (long : length rows ≡ 192) where
+  -- row u gains the terminal v, as equal says it
+  equal-gains : (now : List ℕ) → length now ≡ 192 → (u v : ℕ) → u < 64 → (a b : ℕ) (new : Bool) → (eqb a u && eqb b v) ≡ new
+      → holds (gains now u (2 ^ v)) equal a b ≡ (holds now equal a b || new)
   equal-gains now l u v h a b new e =
-      row-gains now (4 * u + 2) (2 ^ v) (4 * a + 2) b new l (omega arith) (ap (λ t. t && bit (2 ^ v) b) (row-same 2 a u) ∙ ap (λ t. eqb a u && t) (bit-pow v b) ∙ e)
+      row-gains now u (2 ^ v) a b new l (omega arith) (ap (λ t. eqb a u && t) (bit-pow v b) ∙ e)
 
   -- a then b
-  adds-terminals : (u v : ℕ) (w : List Symbol) → u < 64 → Adds (λ k a b. here g k a b (terminal u ∷ terminal v ∷ w)) rows (gains rows (4 * u + 2) (2 ^ v))
-  adds-terminals u v w h = record { long = gains-long rows (4 * u + 2) (2 ^ v) long; says = says }
+  adds-terminals : (u v : ℕ) (w : List Symbol) → u < 64 → Adds (λ k a b. here g k a b (terminal u ∷ terminal v ∷ w)) rows (gains rows u (2 ^ v))
+  adds-terminals u v w h = record { long = gains-long rows u (2 ^ v) long; says = says }
     where
-      says : (k : Relation) (a b : ℕ) → holds (gains rows (4 * u + 2) (2 ^ v)) k a b ≡ (holds rows k a b || here g k a b (terminal u ∷ terminal v ∷ w))
-      says blank a b = refl
-      says yields a b = row-kept rows (4 * u + 2) (2 ^ v) (4 * a + 1) b (omega arith) ∙ kept _ _ (here-yields g a b (terminal u) (terminal v) w ∙ and-false (eqb a u))
-      says equal a b = equal-gains rows long u v h a b _
+      says : (k : Relation) (a b : ℕ) → a < 64 → b < 64 → holds (gains rows u (2 ^ v)) k a b ≡ (holds rows k a b || here g k a b (terminal u ∷ terminal v ∷ w))
+      says blank a b i j = refl
+      says yields a b i j = row-kept rows u (2 ^ v) (64 + a) b (omega arith) ∙ kept _ _ (here-yields g a b (terminal u) (terminal v) w ∙ and-false (eqb a u))
+      says equal a b i j = equal-gains rows long u v h a b _
           (sym (here-equal g a b (terminal u) (terminal v) w ∙ ap (λ t. (eqb a u && eqb b v) || t) (and-false (eqb a u)) ∙ or-false (eqb a u && eqb b v)))
-      says takes a b = row-kept rows (4 * u + 2) (2 ^ v) (4 * b + 3) a (omega arith) ∙ kept _ _ refl
+      says takes a b i j = row-kept rows u (2 ^ v) (128 + b) a (omega arith) ∙ kept _ _ refl
 
   -- a then nonterminal D
   module _ (u d : ℕ) (h : u < 64) where
     abbrev yielded : List ℕ
-    yielded = gains rows (4 * u + 1) (getD left d 0)
+    yielded = gains rows (64 + u) (getD left d 0)
 
-    yielded-long : length yielded ≡ 256
-    yielded-long = gains-long rows (4 * u + 1) (getD left d 0) long
+    yielded-long : length yielded ≡ 192
+    yielded-long = gains-long rows (64 + u) (getD left d 0) long
 
     yields-gains : (w : List Symbol) (a b : ℕ) → holds yielded yields a b ≡ (holds rows yields a b || here g yields a b (terminal u ∷ nonterminal d ∷ w))
-    yields-gains w a b = row-gains rows (4 * u + 1) (getD left d 0) (4 * a + 1) b _ long (omega arith)
-        (ap (λ t. t && bit (getD left d 0) b) (row-same 1 a u) ∙ ap (λ t. eqb a u && t) (sets .lefts d b) ∙ sym (here-yields g a b (terminal u) (nonterminal d) w))
+    yields-gains w a b = row-gains rows (64 + u) (getD left d 0) (64 + a) b _ long (omega arith)
+        (ap (λ t. t && bit (getD left d 0) b) (row-same 64 a u) ∙ ap (λ t. eqb a u && t) (sets .lefts d b) ∙ sym (here-yields g a b (terminal u) (nonterminal d) w))
 
     -- equal stays, and so does takes
-    equal-kept : (a b : ℕ) → holds yielded equal a b ≡ holds rows equal a b
-    equal-kept a b = row-kept rows (4 * u + 1) (getD left d 0) (4 * a + 2) b (omega arith)
+    equal-kept : (a b : ℕ) → a < 64 → holds yielded equal a b ≡ holds rows equal a b
+    equal-kept a b i = row-kept rows (64 + u) (getD left d 0) a b (omega arith)
 
     takes-kept : (a b : ℕ) → holds yielded takes a b ≡ holds rows takes a b
-    takes-kept a b = row-kept rows (4 * u + 1) (getD left d 0) (4 * b + 3) a (omega arith)
+    takes-kept a b = row-kept rows (64 + u) (getD left d 0) (128 + b) a (omega arith)
 
     -- what a then D, and what stands behind it, show of equal
     here-around : (w : List Symbol) (a b : ℕ) → here g equal a b (terminal u ∷ nonterminal d ∷ w) ≡ (eqb a u && fits (this b ∷ []) w)
@@ -199,35 +199,35 @@ module _ (g : Grammar) (left right : List ℕ) (sets : AreSets g left right) (ro
     adds-last : Adds (λ k a b. here g k a b (terminal u ∷ nonterminal d ∷ [])) rows yielded
     adds-last = record { long = yielded-long; says = says }
       where
-        says : (k : Relation) (a b : ℕ) → holds yielded k a b ≡ (holds rows k a b || here g k a b (terminal u ∷ nonterminal d ∷ []))
-        says blank a b = refl
-        says yields a b = yields-gains [] a b
-        says equal a b = equal-kept a b ∙ kept _ _ (here-around [] a b ∙ and-false (eqb a u))
-        says takes a b = takes-kept a b ∙ kept _ _ refl
+        says : (k : Relation) (a b : ℕ) → a < 64 → b < 64 → holds yielded k a b ≡ (holds rows k a b || here g k a b (terminal u ∷ nonterminal d ∷ []))
+        says blank a b i j = refl
+        says yields a b i j = yields-gains [] a b
+        says equal a b i j = equal-kept a b i ∙ kept _ _ (here-around [] a b ∙ and-false (eqb a u))
+        says takes a b i j = takes-kept a b ∙ kept _ _ refl
 
     -- then b
-    adds-around : (v : ℕ) (w : List Symbol) → Adds (λ k a b. here g k a b (terminal u ∷ nonterminal d ∷ terminal v ∷ w)) rows (gains yielded (4 * u + 2) (2 ^ v))
-    adds-around v w = record { long = gains-long yielded (4 * u + 2) (2 ^ v) yielded-long; says = says }
+    adds-around : (v : ℕ) (w : List Symbol) → Adds (λ k a b. here g k a b (terminal u ∷ nonterminal d ∷ terminal v ∷ w)) rows (gains yielded u (2 ^ v))
+    adds-around v w = record { long = gains-long yielded u (2 ^ v) yielded-long; says = says }
       where
-        says : (k : Relation) (a b : ℕ) → holds (gains yielded (4 * u + 2) (2 ^ v)) k a b
+        says : (k : Relation) (a b : ℕ) → a < 64 → b < 64 → holds (gains yielded u (2 ^ v)) k a b
             ≡ (holds rows k a b || here g k a b (terminal u ∷ nonterminal d ∷ terminal v ∷ w))
-        says blank a b = refl
-        says yields a b = row-kept yielded (4 * u + 2) (2 ^ v) (4 * a + 1) b (omega arith) ∙ yields-gains (terminal v ∷ w) a b
-        says equal a b =
+        says blank a b i j = refl
+        says yields a b i j = row-kept yielded u (2 ^ v) (64 + a) b (omega arith) ∙ yields-gains (terminal v ∷ w) a b
+        says equal a b i j =
             equal-gains yielded yielded-long u v h a b _ (sym (here-around (terminal v ∷ w) a b ∙ ap (λ t. eqb a u && t) (fits-one (this b) (terminal v) w)))
-            ∙ ap (λ t. t || here g equal a b (terminal u ∷ nonterminal d ∷ terminal v ∷ w)) (equal-kept a b)
-        says takes a b = row-kept yielded (4 * u + 2) (2 ^ v) (4 * b + 3) a (omega arith) ∙ takes-kept a b ∙ kept _ _ refl
+            ∙ ap (λ t. t || here g equal a b (terminal u ∷ nonterminal d ∷ terminal v ∷ w)) (equal-kept a b i)
+        says takes a b i j = row-kept yielded u (2 ^ v) (128 + b) a (omega arith) ∙ takes-kept a b ∙ kept _ _ refl
 
   -- nonterminal D then b
-  adds-takes : (d v : ℕ) (w : List Symbol) → v < 64 → Adds (λ k a b. here g k a b (nonterminal d ∷ terminal v ∷ w)) rows (gains rows (4 * v + 3) (getD right d 0))
-  adds-takes d v w h = record { long = gains-long rows (4 * v + 3) (getD right d 0) long; says = says }
+  adds-takes : (d v : ℕ) (w : List Symbol) → v < 64 → Adds (λ k a b. here g k a b (nonterminal d ∷ terminal v ∷ w)) rows (gains rows (128 + v) (getD right d 0))
+  adds-takes d v w h = record { long = gains-long rows (128 + v) (getD right d 0) long; says = says }
     where
-      says : (k : Relation) (a b : ℕ) → holds (gains rows (4 * v + 3) (getD right d 0)) k a b ≡ (holds rows k a b || here g k a b (nonterminal d ∷ terminal v ∷ w))
-      says blank a b = refl
-      says yields a b = row-kept rows (4 * v + 3) (getD right d 0) (4 * a + 1) b (omega arith) ∙ kept _ _ refl
-      says equal a b = row-kept rows (4 * v + 3) (getD right d 0) (4 * a + 2) b (omega arith) ∙ kept _ _ refl
-      says takes a b = row-gains rows (4 * v + 3) (getD right d 0) (4 * b + 3) a _ long (omega arith)
-          (ap (λ t. t && bit (getD right d 0) a) (row-same 3 b v) ∙ ap (λ t. eqb b v && t) (sets .rights d a)
+      says : (k : Relation) (a b : ℕ) → a < 64 → b < 64 → holds (gains rows (128 + v) (getD right d 0)) k a b ≡ (holds rows k a b || here g k a b (nonterminal d ∷ terminal v ∷ w))
+      says blank a b i j = refl
+      says yields a b i j = row-kept rows (128 + v) (getD right d 0) (64 + a) b (omega arith) ∙ kept _ _ refl
+      says equal a b i j = row-kept rows (128 + v) (getD right d 0) a b (omega arith) ∙ kept _ _ refl
+      says takes a b i j = row-gains rows (128 + v) (getD right d 0) (128 + b) a _ long (omega arith)
+          (ap (λ t. t && bit (getD right d 0) a) (row-same 128 b v) ∙ ap (λ t. eqb b v && t) (sets .rights d a)
           ∙ and-comm (eqb b v) (leftMember (mirrored g) d a) ∙ sym (here-takes g a b (nonterminal d) (terminal v) w))
 
   -- two neighbours; where the second is a nonterminal nothing stands behind it
@@ -277,11 +277,11 @@ anywhere test (x ∷ w) = test (x ∷ w) || anywhere test w
 
 -- at the place where `rest` stands: the rows, with what is still to come, say what they said before and what the whole string shows
 pub record Walked (g : Grammar) (whole rest : List Symbol) (before after : List ℕ) : Type 0 where
-  pub long : length after ≡ 256
-  pub says : (k : Relation) (a b : ℕ) → (holds after k a b || anywhere (here g k a b) rest) ≡ (holds before k a b || anywhere (here g k a b) whole)
+  pub long : length after ≡ 192
+  pub says : (k : Relation) (a b : ℕ) → a < 64 → b < 64 → (holds after k a b || anywhere (here g k a b) rest) ≡ (holds before k a b || anywhere (here g k a b) whole)
 
-pub walked-none : (g : Grammar) (whole : List Symbol) (rows : List ℕ) → length rows ≡ 256 → Walked g whole whole rows rows
-walked-none g whole rows long = record { long = long; says = λ k a b. refl }
+pub walked-none : (g : Grammar) (whole : List Symbol) (rows : List ℕ) → length rows ≡ 192 → Walked g whole whole rows rows
+walked-none g whole rows long = record { long = long; says = λ k a b i j. refl }
 
 -- where at most one symbol is left nothing more is shown
 none-left : (g : Grammar) (k : Relation) (a b : ℕ) (w : List Symbol) → length w ≤ 1 → anywhere (here g k a b) w ≡ false
@@ -303,12 +303,12 @@ module _ {g : Grammar} {whole : List Symbol} {before rows : List ℕ} where
       → Walked g whole w before after
   walked-step {x} {w} walked adds = record {
     long = adds .long;
-    says = λ k a b.
-        ap (λ t. t || anywhere (here g k a b) w) (adds .says k a b) ∙ or-assoc (holds rows k a b) (here g k a b (x ∷ w)) (anywhere (here g k a b) w) ∙ walked .says k a b;
+    says = λ k a b i j.
+        ap (λ t. t || anywhere (here g k a b) w) (adds .says k a b i j) ∙ or-assoc (holds rows k a b) (here g k a b (x ∷ w)) (anywhere (here g k a b) w) ∙ walked .says k a b i j;
   }
 
   pub walked-end : {rest : List Symbol} → Walked g whole rest before rows → length rest ≤ 1 → Adds (λ k a b. anywhere (here g k a b) whole) before rows
   walked-end {rest} walked h = record {
     long = walked .long;
-    says = λ k a b. kept (holds rows k a b) (anywhere (here g k a b) rest) (none-left g k a b rest h) ∙ walked .says k a b;
+    says = λ k a b i j. kept (holds rows k a b) (anywhere (here g k a b) rest) (none-left g k a b rest h) ∙ walked .says k a b i j;
   }

@@ -17,15 +17,7 @@ ghost use Rattle.table.specs.Sided.{sided};
 pub fn check_symbols(words: &[u16]) -> Answer
     ensures { λ r. ⌜ r ≡ checkSymbols (now (words .entry)) ⌝ }
 {
-    let head = words::head(words);
-    if let Answer::Refused(_) = head {
-        return head;
-    }
-    let contents = words::contents(words);
-    if let Answer::Refused(_) = contents {
-        return contents;
-    }
-    words::symbols(words)
+    words::head(words)
 }
 
 // Checks 1 to 5: after 1 to 3 the form of each right side, and that no two rules have the same.
@@ -36,11 +28,7 @@ pub fn check_words(words: &[u16]) -> Answer
     if let Answer::Refused(_) = symbols {
         return symbols;
     }
-    let forms = words::forms(words);
-    if let Answer::Refused(_) = forms {
-        return forms;
-    }
-    words::twins(words)
+    words::forms(words)
 }
 
 // Checks 1 to 6 and then 11, and writes the matrix: 4,096 bytes, anything beyond is untouched.
@@ -52,13 +40,7 @@ pub fn load(words: &[u16], matrix: &mut [u8]) -> Answer
     if let Answer::Refused(_) = words_checked {
         return words_checked;
     }
-    let table = relations::table_of(words);
-    let table_checked = relations::check_table(&table, matrix.len());
-    if let Answer::Refused(_) = table_checked {
-        return table_checked;
-    }
-    relations::copy_out(matrix, &table);
-    Answer::Done
+    relations::write_matrix(words, matrix)
 }
 
 // Checks 1 to 5 and then 21, and gives the left or the right set of nonterminal k.

@@ -1,22 +1,21 @@
 // The relations of all pairs of terminals as rows of masks, by one walk over the right sides; the matrix, and its conflicts.
 // Document 01, "Sets and matrix". # is terminal 0.
-// Row 4a + 1 holds the b that a yields to, row 4a + 2 the b that a is equal to, and row 4b + 3 the a that take over b.
+// Row a holds the b that a is equal to, row 64 + a the b that a yields to, and row 128 + b the a that take over b.
 use crate::sets;
 use crate::words;
 use refusals::Answer;
 use refusals::Refusal;
 ghost use mathlib.Core.Path.{_≡_};
-ghost use mathlib.Core.List.{_++_};
 ghost use Prim.Native.Nat.{_≤_, _<_};
-ghost use lib.ListN.{length, getD, drop};
+ghost use lib.ListN.{length, getD};
 ghost use Rattle.laws.specs.Masks.{bit};
 ghost use Rattle.laws.specs.Tabulate.{tabulate};
 ghost use Rattle.language.specs.Words.{countR, grammarOf};
 ghost use Rattle.language.specs.Checks.{Passed};
+ghost use Rattle.language.specs.Loads.{loadAnswer, loadBytes};
 ghost use Rattle.table.specs.SetPasses.{AreSets};
 ghost use Rattle.table.specs.Shown.{Adds, Paired, shownBy, pairShown};
-ghost use Rattle.table.specs.RelationRows.{Union, shownIn, Seen, Shows, numberOf, entryIn, markedAt};
-ghost use Rattle.table.specs.Loaded.{tableAnswer};
+ghost use Rattle.table.specs.RelationRows.{Union, shownIn, Seen, Shows, pairNumber, entryIn, markedAt};
 
 // A row, and the members that are added to it.
 struct Added {
@@ -31,48 +30,49 @@ fn shown_by(a: usize, b: usize, left: &[u64; 64], right: &[u64; 64]) -> Added
 {
     if 256 <= a {
         return Added {
-            row: 4 * b + 3,
+            row: 128 + b,
             mask: right[a - 256],
         };
     }
     if 256 <= b {
         return Added {
-            row: 4 * a + 1,
+            row: 64 + a,
             mask: left[b - 256],
         };
     }
     Added {
-        row: 4 * a + 2,
+        row: a,
         mask: 1u64 << b,
     }
 }
 
 // The rows gain what the pair a, b shows.
-fn show(a: usize, b: usize, left: &[u64; 64], right: &[u64; 64], rows: &mut [u64; 256])
+fn show(a: usize, b: usize, left: &[u64; 64], right: &[u64; 64], rows: &mut [u64; 192])
     requires { ⌜ Paired a b ⌝ }
     ensures { λ _. ⌜ now (rows .exit) ≡ pairShown (now (left .entry)) (now (right .entry)) a b (now (rows .entry)) ⌝ }
 {
     let shown = shown_by(a, b, left, right);
     let row = shown.row;
-    rows[row] = rows[row] | shown.mask;
+    rows[row] |= shown.mask;
 }
 
 // What rule r's right side shows, place by place.
-fn rule_shows(words: &[u16], r: usize, left: &[u64; 64], right: &[u64; 64], rows: &mut [u64; 256])
-    requires { ⌜ Passed (now words) × (r < countR (now words)) × AreSets (grammarOf (now words)) (now left) (now right) × (length (now rows) ≡ 256) ⌝ }
+fn rule_shows(words: &[u16], r: usize, left: &[u64; 64], right: &[u64; 64], rows: &mut [u64; 192])
+    requires { ⌜ Passed (now words) × (r < countR (now words)) × AreSets (grammarOf (now words)) (now left) (now right) × (length (now rows) ≡ 192) ⌝ }
     ensures { λ _. ⌜ Adds (λ k a b. shownIn (grammarOf (now (words .entry))) k a b r) (now (rows .entry)) (now (rows .exit)) ⌝ }
 {
     let end = words::body_end(words, r);
-    let mut p = words::entry(words, r) + 1;
-    while p + 1 < end {
-        let a = words::word(words, p);
-        let b = words::word(words, p + 1);
+    // a and b stand at p - 1 and p
+    let mut p = words::entry(words, r) + 2;
+    while p < end {
+        let a = words::word(words, p - 1);
+        let b = words::word(words, p);
         show(a, b, left, right, rows);
-        // the terminals around a nonterminal
-        if (256 <= b) & (p + 2 < end) {
-            show(a, words::word(words, p + 2), left, right, rows);
-        }
         p += 1;
+        // the terminals around a nonterminal
+        if (256 <= b) & (p < end) {
+            show(a, words::word(words, p), left, right, rows);
+        }
     }
 }
 
@@ -90,39 +90,39 @@ fn union_of(masks: &[u64; 64], count: usize) -> u64
     all
 }
 
-// # yields to each member of an axiom's left set; each member of an axiom's right set takes over #; # equals #.
-fn ends_show(words: &[u16], left: &[u64; 64], right: &[u64; 64]) -> [u64; 256]
+// # equals #; # yields to each member of an axiom's left set; each member of an axiom's right set takes over #.
+fn ends_show(words: &[u16], left: &[u64; 64], right: &[u64; 64]) -> [u64; 192]
     requires { ⌜ Passed (now words) × AreSets (grammarOf (now words)) (now left) (now right) ⌝ }
     ensures { λ rows. ⌜ Seen (grammarOf (now (words .entry))) 0 rows ⌝ }
 {
     let axioms = words::word(words, 2);
-    let mut rows = [0u64; 256];
-    rows[1] = union_of(left, axioms);
-    rows[2] = 1;
-    rows[3] = union_of(right, axioms);
+    let mut rows = [0u64; 192];
+    rows[0] = 1;
+    rows[64] = union_of(left, axioms);
+    rows[128] = union_of(right, axioms);
     rows
 }
 
 // The relations of #, and those that the rules show.
-fn relations_of(words: &[u16]) -> [u64; 256]
+fn relations_of(words: &[u16]) -> [u64; 192]
     requires { ⌜ Passed (now words) ⌝ }
     ensures { λ rows. ⌜ Shows (grammarOf (now (words .entry))) rows ⌝ }
 {
-    let left = sets::masks(words, false);
-    let right = sets::masks(words, true);
-    let mut rows = ends_show(words, &left, &right);
+    let left = &sets::masks(words, false);
+    let right = &sets::masks(words, true);
+    let mut rows = ends_show(words, left, right);
     let rules = words::word(words, 3);
     let mut r: usize = 0;
     while r < rules {
-        rule_shows(words, r, &left, &right, &mut rows);
+        rule_shows(words, r, left, right, &mut rows);
         r += 1;
     }
     rows
 }
 
 // Terminal t is in a row.
-fn has(rows: &[u64; 256], row: usize, t: usize) -> bool
-    requires { ⌜ (row < 256) × (t < 64) ⌝ }
+fn has(rows: &[u64; 192], row: usize, t: usize) -> bool
+    requires { ⌜ (row < 192) × (t < 64) ⌝ }
     ensures { λ b. ⌜ b ≡ bit (getD (now (rows .entry)) row 0) t ⌝ }
 {
     rows[row] >> t & 1 == 1
@@ -130,9 +130,9 @@ fn has(rows: &[u64; 256], row: usize, t: usize) -> bool
 
 // The number of the relation: equal 2, yields 1, takes 3, blank 0; and 4 for two relations, which no matrix holds.
 fn number_of(equal: bool, yields: bool, takes: bool) -> u8
-    ensures { λ n. ⌜ n ≡ numberOf equal yields takes ⌝ }
+    ensures { λ n. ⌜ n ≡ pairNumber equal yields takes ⌝ }
 {
-    if equal & yields | equal & takes | yields & takes {
+    if equal & (yields | takes) | yields & takes {
         return 4;
     }
     if equal {
@@ -148,21 +148,17 @@ fn number_of(equal: bool, yields: bool, takes: bool) -> u8
 }
 
 // The number of the pair a, b with 64a + b = v.
-fn entry_at(rows: &[u64; 256], v: usize) -> u8
+fn entry_at(rows: &[u64; 192], v: usize) -> u8
     requires { ⌜ v < 4096 ⌝ }
     ensures { λ n. ⌜ n ≡ entryIn (now (rows .entry)) v ⌝ }
 {
     let a = v / 64;
     let b = v % 64;
-    number_of(
-        has(rows, 4 * a + 2, b),
-        has(rows, 4 * a + 1, b),
-        has(rows, 4 * b + 3, a),
-    )
+    number_of(has(rows, a, b), has(rows, 64 + a, b), has(rows, 128 + b, a))
 }
 
 // The matrix: a over b at 64a + b, and 4 there where the pair has two relations.
-pub fn table_of(words: &[u16]) -> [u8; 4096]
+fn table_of(words: &[u16]) -> [u8; 4096]
     requires { ⌜ Passed (now words) ⌝ }
     ensures { λ t. ⌜ t ≡ tabulate (markedAt (grammarOf (now (words .entry)))) 4096 ⌝ }
 {
@@ -176,10 +172,14 @@ pub fn table_of(words: &[u16]) -> [u8; 4096]
     table
 }
 
-// Check 6, the least 64a + b of a pair a, b with two relations, and then 11: the table has no room in fewer than 4,096 bytes.
-pub fn check_table(table: &[u8; 4096], room: usize) -> Answer
-    ensures { λ r. ⌜ r ≡ tableAnswer (now (table .entry)) room ⌝ }
+// Check 6, the least 64a + b of a pair a, b with two relations, and then 11: the matrix has no room in fewer than 4,096 bytes.
+// After both it is copied to the lent bytes; those beyond are untouched.
+pub fn write_matrix(words: &[u16], matrix: &mut [u8]) -> Answer
+    requires { ⌜ Passed (now words) ⌝ }
+    ensures answer { λ r. ⌜ r ≡ loadAnswer (now (words .entry)) (length (now (matrix .entry))) ⌝ }
+    ensures bytes { λ r. ⌜ now (matrix .exit) ≡ loadBytes (now (words .entry)) (now (matrix .entry)) ⌝ }
 {
+    let table = table_of(words);
     let mut v: usize = 0;
     while v < 4096 {
         if table[v] == 4 {
@@ -187,20 +187,13 @@ pub fn check_table(table: &[u8; 4096], room: usize) -> Answer
         }
         v += 1;
     }
-    if room < 4096 {
+    if matrix.len() < 4096 {
         return Answer::Refused(Refusal::NoRoom(4096));
     }
-    Answer::Done
-}
-
-// The matrix copied to the lent bytes; those beyond are untouched.
-pub fn copy_out(matrix: &mut [u8], table: &[u8; 4096])
-    requires { ⌜ (4096 ≤ length (now matrix)) × (length (now table) ≡ 4096) ⌝ }
-    ensures { λ _. ⌜ now (matrix .exit) ≡ now (table .entry) ++ drop 4096 (now (matrix .entry)) ⌝ }
-{
     let mut at: usize = 0;
     while at < 4096 {
         matrix[at] = table[at];
         at += 1;
     }
+    Answer::Done
 }

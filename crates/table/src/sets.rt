@@ -57,9 +57,7 @@ fn pass(words: &[u16], masks: &mut [u64; 64], from_end: bool) -> bool
     let mut changed = false;
     let mut r: usize = 0;
     while r < rules {
-        if gain(words, masks, r, from_end) {
-            changed = true;
-        }
+        changed = changed | gain(words, masks, r, from_end);
         r += 1;
     }
     changed

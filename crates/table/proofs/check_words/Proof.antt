@@ -1,21 +1,15 @@
 -- `check_words` answers what `checkWords` says: 1 to 3 by `check_symbols`, then 4 and 5, which rest on bodies that are laid.
 use mathlib.Core.Path.{_≡_, sym, _∙_}
-use mathlib.Core.List.{[], _∷_}
 use borrow.Author.Needs.{needs}
 use Rattle.refusals.specs.declared.Answer.the-variants.{Done}
-use Rattle.language.specs.Stages.{checked}
-use Rattle.language.specs.CheckForm.{formStage}
 use Rattle.language.specs.Checks.{checkSymbols}
-use Rattle.table.specs.Answered.{symbols-refuse, laid-done, forms-refuse, twins-decide}
+use Rattle.table.specs.Answered.{symbols-refuse, laid-done, forms-decide}
 use Rattle.table.proofs.check_words.Statement.{statement}
 use Rattle.table.proofs.check_words.Tie as tie
 
 -- after checks that pass
 symbols-pass : (c : tie.After-enum-told2) → Done ≡ checkSymbols (c .before .before .before .before .args .words .now)
 symbols-pass c = sym (c .enum-told2 .given .1) ∙ c .before .before .check-symbols .ensures
-
-forms-pass : (c : tie.After-enum-told4) → Done ≡ checked (formStage ∷ []) (c .before .before .before .before .before .before .before .args .words .now)
-forms-pass c = sym (c .enum-told4 .given .1) ∙ c .before .before .forms .ensures
 
 check-symbols-requires : tie.Need-check-symbols-requires
 check-symbols-requires c κs = tt
@@ -34,37 +28,9 @@ enum-told-2 c = search needs
 forms-requires : tie.Need-forms-requires
 forms-requires c κs = laid-done (c .before .before .before .before .args .words .now) (symbols-pass c)
 
-enum-told-3 : tie.Need-enum-told-3
-enum-told-3 c = search needs
-
 returns-2 : tie.Need-returns-2
-returns-2 c =
-    let told = c .enum-told3 .given .1 in
-    rw told (forms-refuse (c .before .before .before .before .before .before .before .args .words .now) (symbols-pass (c .before .before .before)) (c .enum-told3 .given .0 .0)
-    (sym told ∙ c .before .before .forms .ensures))
-
-enum-told-4 : tie.Need-enum-told-4
-enum-told-4 c = search needs
-
-twins-requires : tie.Need-twins-requires
-twins-requires c κs = laid-done (c .before .before .before .before .before .before .before .args .words .now) (symbols-pass (c .before .before .before))
-
-returns-3 : tie.Need-returns-3
-returns-3 c =
-    let words = c .before .before .before .before .before .before .before .before .args .words .now in
-    c .twins .ensures ∙ twins-decide words (symbols-pass (c .before .before .before .before)) (forms-pass (c .before))
+returns-2 c = c .forms .ensures ∙ forms-decide (c .before .before .before .before .before .args .words .now) (symbols-pass (c .before))
 
 pub check-words-spec : {M : Type 1} → statement M
 check-words-spec =
-    tie.close
-    (tie.spec
-    check-symbols-requires
-    enum-told
-    returns
-    enum-told-2
-    forms-requires
-    enum-told-3
-    returns-2
-    enum-told-4
-    twins-requires
-    returns-3)
+    tie.close (tie.spec check-symbols-requires enum-told returns enum-told-2 forms-requires returns-2)

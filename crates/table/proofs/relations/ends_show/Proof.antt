@@ -11,14 +11,14 @@ use Rattle.table.proofs.relations.ends_show.Tie as tie
 word-requires : tie.Need-word-requires
 word-requires c κs = let s = c .before in omega (arith, passed-laid (s .args .words .now) (s .pre .0) .present)
 
+array-write-rows : tie.Need-array-write-rows
+array-write-rows c = search needs
+
 union-of-requires : tie.Need-union-of-requires
 union-of-requires c κs =
     let s = c .before .before in
     let h = passed-laid (s .args .words .now) (s .pre .0) .headed in
     omega (arith, c .word .ensures .0, h .axioms, h .nonterminals)
-
-array-write-rows : tie.Need-array-write-rows
-array-write-rows c = search needs
 
 array-write-rows-2 : tie.Need-array-write-rows-2
 array-write-rows-2 c = search needs
@@ -46,8 +46,8 @@ ends-show-spec =
     tie.close
     (tie.spec
     word-requires
-    union-of-requires
     array-write-rows
+    union-of-requires
     array-write-rows-2
     union-of-requires-2
     array-write-rows-3

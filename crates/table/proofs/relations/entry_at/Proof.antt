@@ -3,29 +3,17 @@ use native.Mathlib.Omega.{arith}
 use Rattle.table.proofs.relations.entry_at.Statement.{statement}
 use Rattle.table.proofs.relations.entry_at.Tie as tie
 
-mul-has : tie.Need-mul-has
-mul-has c = omega arith
+has-requires : tie.Need-has-requires
+has-requires c κs = omega arith
 
 add-has : tie.Need-add-has
 add-has c = omega arith
 
-has-requires : tie.Need-has-requires
-has-requires c κs = omega arith
-
-mul-has-2 : tie.Need-mul-has-2
-mul-has-2 c = omega arith
-
-add-has-2 : tie.Need-add-has-2
-add-has-2 c = omega arith
-
 has-requires-2 : tie.Need-has-requires-2
 has-requires-2 c κs = omega arith
 
-mul-has-3 : tie.Need-mul-has-3
-mul-has-3 c = omega arith
-
-add-has-3 : tie.Need-add-has-3
-add-has-3 c = omega arith
+add-has-2 : tie.Need-add-has-2
+add-has-2 c = omega arith
 
 has-requires-3 : tie.Need-has-requires-3
 has-requires-3 c κs = omega arith
@@ -37,17 +25,4 @@ returns : tie.Need-returns
 returns c = rw (c .number-of .ensures, c .before .has3 .ensures, c .before .before .has2 .ensures, c .before .before .before .has .ensures)
 
 pub entry-at-spec : {M : Type 1} → statement M
-entry-at-spec =
-    tie.close
-    (tie.spec
-    mul-has
-    add-has
-    has-requires
-    mul-has-2
-    add-has-2
-    has-requires-2
-    mul-has-3
-    add-has-3
-    has-requires-3
-    number-of-requires
-    returns)
+entry-at-spec = tie.close (tie.spec has-requires add-has has-requires-2 add-has-2 has-requires-3 number-of-requires returns)

@@ -3,27 +3,27 @@ use mathlib.Core.Path.{_≡_, sym, ap, ap₂, _∙_}
 use mathlib.Core.Bool.{Bool, true, false, _&&_, _||_}
 use Rattle.language.specs.Symbols.{relationNumber}
 use Rattle.language.specs.RelationTests.{firstOf}
-use Rattle.table.specs.RelationRows.{numberOf, two-is}
+use Rattle.table.specs.RelationRows.{pairNumber, two-is}
 use Rattle.table.proofs.relations.number_of.Statement.{statement}
 use Rattle.table.proofs.relations.number_of.Tie as tie
 
-two : (e y t : Bool) → ((e && y) || (e && t) || (y && t)) ≡ true → 4 ≡ numberOf e y t
+two : (e y t : Bool) → ((e && (y || t)) || (y && t)) ≡ true → 4 ≡ pairNumber e y t
 two e y t both = rw (sym (two-is e y t) ∙ both)
 
-module _ (e y t : Bool) (one : ((e && y) || (e && t) || (y && t)) ≡ false) where
-  only : relationNumber (firstOf e y t) ≡ numberOf e y t
+module _ (e y t : Bool) (one : ((e && (y || t)) || (y && t)) ≡ false) where
+  only : relationNumber (firstOf e y t) ≡ pairNumber e y t
   only = rw (sym (two-is e y t) ∙ one)
 
-  equal : e ≡ true → 2 ≡ numberOf e y t
+  equal : e ≡ true → 2 ≡ pairNumber e y t
   equal p = ap (λ b. relationNumber (firstOf b y t)) (sym p) ∙ only
 
-  yields : e ≡ false → y ≡ true → 1 ≡ numberOf e y t
+  yields : e ≡ false → y ≡ true → 1 ≡ pairNumber e y t
   yields p q = ap₂ (λ b c. relationNumber (firstOf b c t)) (sym p) (sym q) ∙ only
 
-takes : (e y t : Bool) → e ≡ false → y ≡ false → t ≡ true → 3 ≡ numberOf e y t
+takes : (e y t : Bool) → e ≡ false → y ≡ false → t ≡ true → 3 ≡ pairNumber e y t
 takes e y t p q h = rw (p, q, h)
 
-blank : (e y t : Bool) → e ≡ false → y ≡ false → t ≡ false → 0 ≡ numberOf e y t
+blank : (e y t : Bool) → e ≡ false → y ≡ false → t ≡ false → 0 ≡ pairNumber e y t
 blank e y t p q h = rw (p, q, h)
 
 returns : tie.Need-returns

@@ -20,11 +20,10 @@ masks-requires : tie.Need-masks-requires Inv-loop μ-loop
 masks-requires c κs = c .before .pre
 
 masks-requires-2 : tie.Need-masks-requires-2 Inv-loop μ-loop
-masks-requires-2 c κs = c .before .before .pre
+masks-requires-2 c κs = c .before .before .before .pre
 
 ends-show-requires : tie.Need-ends-show-requires Inv-loop μ-loop
-ends-show-requires c κs =
-    (c .before .before .before .before .before .pre, record { lefts = c .before .before .before .masks .ensures; rights = c .before .before .masks2 .ensures })
+ends-show-requires c κs = (c .before .before .before .before .before .pre, record { lefts = c .before .before .before .masks .ensures; rights = c .before .masks2 .ensures })
 
 word-requires : tie.Need-word-requires Inv-loop μ-loop
 word-requires c κs = let s = c .before .before .before .before .before .before in omega (arith, passed-laid (s .args .words .now) (s .pre) .present)
@@ -34,13 +33,11 @@ loop-holds c = (omega arith, c .before .ends-show .ensures)
 
 rule-shows-requires : tie.Need-rule-shows-requires Inv-loop μ-loop
 rule-shows-requires c κs =
-    let at-loop = c .before .before .before .before in
-    let sets = at-loop .before .before .before .before .before in
-    let read = at-loop .before .word in (
-      sets .before .before .before .pre,
-      omega (arith, read .ensures .0),
-      record { lefts = sets .before .masks .ensures; rights = sets .masks2 .ensures },
-      at-loop .loop .inv .1 .long,
+    let sets = c .before .before .before .before .before .before in (
+      c .before .before .before .before .before .before .before .before .before .before .pre,
+      omega (arith, c .before .before .before .word .ensures .0),
+      record { lefts = sets .before .before .masks .ensures; rights = sets .masks2 .ensures },
+      c .before .before .loop .inv .1 .long,
     )
 
 add-r : tie.Need-add-r Inv-loop μ-loop
@@ -50,7 +47,7 @@ loop-less : tie.Need-loop-less Inv-loop μ-loop
 loop-less c = omega arith
 
 loop-again : tie.Need-loop-again Inv-loop μ-loop
-loop-again c = (omega arith, seen-more (c .before .before .before .before .before .loop .inv .1) (c .rule-shows .ensures))
+loop-again c = (omega arith, seen-more (c .before .before .before .loop .inv .1) (c .rule-shows .ensures))
 
 returns : tie.Need-returns Inv-loop μ-loop
 returns c =

@@ -5,8 +5,8 @@ use Rattle.table.specs.Shown.{row-below}
 use Rattle.table.proofs.relations.show.Statement.{statement}
 use Rattle.table.proofs.relations.show.Tie as tie
 
--- the row that is shown is one of the 256
-below : (c : tie.After-shown-by) → c .shown-by .result .row < 256
+-- the row that is shown is one of the 192
+below : (c : tie.After-shown-by) → c .shown-by .result .row < 192
 below c = let s = c .before in rw (c .shown-by .ensures) (row-below (s .args .left .now) (s .args .right .now) (s .args .a) (s .args .b) (s .pre))
 
 shown-by-requires : tie.Need-shown-by-requires
@@ -17,9 +17,6 @@ mul-rows c = omega (arith, below c)
 
 element-copy-out-rows : tie.Need-element-copy-out-rows
 element-copy-out-rows c = below c
-
-mul-rows-2 : tie.Need-mul-rows-2
-mul-rows-2 c = omega (arith, below (c .before .before))
 
 element-write-rows : tie.Need-element-write-rows
 element-write-rows c = below (c .before .before)
@@ -34,6 +31,5 @@ show-spec =
     shown-by-requires
     mul-rows
     element-copy-out-rows
-    mul-rows-2
     element-write-rows
     returns)

@@ -4,14 +4,15 @@ use Prim.Native.Nat.{ℕ, _-_, _≤_}
 use native.Mathlib.Omega.{arith}
 use lib.ListN.{length, take, length-set, length-replicate}
 use Rattle.laws.specs.Tabulate.{tabulate}
-use Rattle.language.specs.WordsInRange.{in-range}
 use Rattle.table.specs.Filled.{filled-more, filled-whole}
-use Rattle.table.specs.RelationRows.{entryIn, marked}
+use Rattle.language.specs.Words.{grammarOf}
+use Rattle.language.specs.WordsInRange.{in-range}
+use Rattle.table.specs.RelationRows.{markedAt, entry-is}
 use Rattle.table.proofs.relations.table_of.Statement.{statement}
 use Rattle.table.proofs.relations.table_of.Tie as tie
 
 abbrev Inv-loop : tie.InvT-loop
-Inv-loop words rows table₀ v₀ table v = (v ≤ 4096) × (length table ≡ 4096) × (take v table ≡ tabulate (entryIn rows) v)
+Inv-loop words rows table₀ v₀ table v = (v ≤ 4096) × (length table ≡ 4096) × (take v table ≡ tabulate (markedAt (grammarOf words)) v)
 
 abbrev μ-loop : tie.MeasureT-loop
 μ-loop words rows table₀ v₀ table v = 4096 - v
@@ -36,20 +37,21 @@ loop-less c = omega arith
 
 loop-again : tie.Need-loop-again Inv-loop μ-loop
 loop-again c =
+    let s = c .before .before .before .before .before .before in
     let l = c .before .before .before .loop in
-    let rows = c .before .before .before .before .relations-of .result in (
+    let r = c .before .before .before .before .relations-of in
+    let words = s .args .words .now in (
       omega arith,
       simp length-set (l .inv .1),
-      filled-more (entryIn rows) (l .table) 4096 (l .inv .1) (l .v) (c .entry-at .result) (omega arith) (l .inv .2) (c .entry-at .ensures),
+      filled-more (markedAt (grammarOf words)) (l .table) 4096 (l .inv .1) (l .v) (c .entry-at .result) (omega arith) (l .inv .2)
+          (c .entry-at .ensures ∙ entry-is (in-range words (s .pre .head) (s .pre .symbols)) (r .result) (r .ensures) (l .v) (omega arith)),
     )
 
 returns : tie.Need-returns Inv-loop μ-loop
 returns c =
     let s = c .before .before .before .before in
     let l = c .before .loop in
-    let r = c .before .before .relations-of in
-    filled-whole (entryIn (r .result)) (l .table) 4096 (l .inv .1) (l .v) (omega arith) (l .inv .0) (l .inv .2)
-    ∙ marked (in-range (s .args .words .now) (s .pre .head) (s .pre .symbols)) (r .result) (r .ensures) 4096
+    filled-whole (markedAt (grammarOf (s .args .words .now))) (l .table) 4096 (l .inv .1) (l .v) (omega arith) (l .inv .0) (l .inv .2)
 
 pub table-of-spec : {M : Type 1} → statement M
 table-of-spec =

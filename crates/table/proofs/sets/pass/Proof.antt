@@ -1,11 +1,10 @@
 -- One pass: every mask stays sound, and either no rule so far changes anything or there are more ones than before.
 use mathlib.Core.Path.{_≡_}
-use mathlib.Core.Logic.{⊎-elim}
 use Prim.Native.Nat.{_-_, _≤_, _<_}
 use native.Mathlib.Omega.{arith}
 use Rattle.language.specs.Words.{countR, grammarOf}
 use Rattle.table.specs.Sided.{sided, passed-laid, side-rules}
-use Rattle.table.specs.SetPasses.{gained, Sound, Grown, grown-none, grown-more, grown-same, gained-sound}
+use Rattle.table.specs.SetPasses.{gained, Sound, Grown, grown-none, grown-more, gained-sound}
 use Rattle.table.proofs.sets.pass.Statement.{statement}
 use Rattle.table.proofs.sets.pass.Tie as tie
 
@@ -36,16 +35,14 @@ loop-less c = omega arith
 
 loop-again : tie.Need-loop-again Inv-loop μ-loop
 loop-again c =
-    let s = c .before .before .before .before .before .before .before in
+    let s = c .before .before .before .before .before .before in
     let a = s .args in
-    let l = c .before .before .before .before .loop in
-    let g = c .before .gain in
-    let below : l .r < countR (a .words .now) = omega (arith, c .before .before .before .before .before .word .ensures .0) in
-    let rule = gained (a .words .now) (a .from-end) in (
+    let l = c .before .before .before .loop in
+    let g = c .gain in
+    let below : l .r < countR (a .words .now) = omega (arith, c .before .before .before .before .word .ensures .0) in (
       omega arith,
       rw (g .ensures .0) (gained-sound (side-rules (a .words .now) (s .pre .0) (a .from-end)) (l .masks) (l .r) below (l .inv .1 .rows) (l .inv .1)),
-      ⊎-elim (λ w. grown-more rule (a .masks .now) (l .masks) (g .last .1 .0) (l .r) (g .ensures .0) (l .inv .2) (g .ensures .1) (w .0 .taken) (w .1))
-          (λ w. grown-same rule (a .masks .now) (l .masks) (g .last .1 .0) (l .r) (g .ensures .0) (l .inv .2) (g .ensures .1) (w .0 .left) (w .1)) (c .if1 .came),
+      grown-more (gained (a .words .now) (a .from-end)) (a .masks .now) (l .masks) (g .last .1 .0) (l .r) (g .ensures .0) (l .inv .2) (g .ensures .1),
     )
 
 returns : tie.Need-returns Inv-loop μ-loop

@@ -3,13 +3,13 @@ use mathlib.Core.Path.{_≡_, sym, _∙_}
 use Prim.Native.Nat.{suc, _+_}
 use native.Mathlib.Omega.{arith}
 use Rattle.language.specs.Words.{entry, bodyEnd}
-use Rattle.table.specs.Laid.{within}
+use Rattle.table.specs.Laid.{ended, within}
 use Rattle.table.specs.Sided.{from-start, from-the-end}
 use Rattle.table.proofs.sets.word_from.Statement.{statement}
 use Rattle.table.proofs.sets.word_from.Tie as tie
 
 body-end-requires : tie.Need-body-end-requires
-body-end-requires c κs = let s = c .before .before in (s .pre .0, s .pre .1)
+body-end-requires c κs = let s = c .before .before in ended (s .pre .0) (s .pre .1)
 
 sub-word : tie.Need-sub-word
 sub-word c = let s = c .before .before .before in omega (arith, s .pre .2, c .body-end .ensures)

@@ -8,17 +8,14 @@ use Rattle.table.specs.Laid.{ends-next, ends-last}
 use Rattle.table.proofs.words.body_end.Statement.{statement}
 use Rattle.table.proofs.words.body_end.Tie as tie
 
-add-if1 : tie.Need-add-if1
-add-if1 c = search needs
+add-next : tie.Need-add-next
+add-next c = search needs
 
 word-requires : tie.Need-word-requires
 word-requires c κs = search needs
 
-add-entry : tie.Need-add-entry
-add-entry c = search needs
-
 entry-requires : tie.Need-entry-requires
-entry-requires c κs = search needs
+entry-requires c κs = let s = c .before .before .before in omega (arith, s .pre .1 (omega arith))
 
 returns : tie.Need-returns
 returns c =
@@ -30,4 +27,4 @@ returns-2 c = let s = c .before .before .before in sym (ends-last (s .args .word
 
 pub body-end-spec : {M : Type 1} → statement M
 body-end-spec =
-    tie.close (tie.spec add-if1 word-requires add-entry entry-requires returns returns-2)
+    tie.close (tie.spec add-next word-requires entry-requires returns returns-2)

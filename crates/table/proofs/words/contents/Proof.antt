@@ -1,13 +1,17 @@
 -- `contents` finds the first bad entry, or R: it has passed only good ones, and so each entry that it reads is there.
 use Prim.Native.Nat.{ℕ, zero, suc, _+_, _-_, _≤_, _<_}
 use mathlib.Core.Bool.{Bool, true, false, _||_}
-use mathlib.Core.List.{List}
+use mathlib.Core.List.{List, [], _∷_}
 use mathlib.Core.Path.{_≡_, refl, sym, _∙_}
 use native.Mathlib.Omega.{arith}
 use lib.Dec.{leb}
 use lib.ListN.{length}
 use Rattle.refusals.specs.declared.Refusal.the-variants.{Contents}
 use Rattle.laws.specs.Tests.{ne-eqb, leb-false}
+use Rattle.laws.specs.Least.{first-nowhere}
+use Rattle.language.specs.Stages.{checked}
+use Rattle.language.specs.CheckSymbols.{symbolStage}
+use Rattle.table.specs.Laid.{laid}
 use Rattle.language.specs.CheckContents.{wrongEntry, badContents}
 use Rattle.language.specs.Words.{countR}
 use Rattle.table.specs.Search.{Clear, clear-none, clear-more, found-at, found-nowhere}
@@ -51,7 +55,7 @@ returns : tie.Need-returns Inv-loop μ-loop
 returns c =
     let words = c .before .before .before .before .before .before .args .words .now in
     let l = c .before .before .before .loop in
-    found-at (badContents words) Contents (suc (countR words)) (l .r) (omega arith) (l .inv .1) (sym (c .before .bad-contents .ensures) ∙ c .if1 .taken)
+    found-at (badContents words) Contents (checked (symbolStage ∷ []) words) (suc (countR words)) (l .r) (omega arith) (l .inv .1) (sym (c .before .bad-contents .ensures) ∙ c .if1 .taken)
 
 add-r : tie.Need-add-r Inv-loop μ-loop
 add-r c = omega arith
@@ -65,11 +69,18 @@ loop-again c =
     let l = c .before .before .before .loop in
     (omega arith, clear-more (badContents words) (l .r) (l .inv .1) (sym (c .before .bad-contents .ensures) ∙ c .if1 .left))
 
+symbols-requires : tie.Need-symbols-requires Inv-loop μ-loop
+symbols-requires c κs =
+    let s = c .before .before .before .before in
+    let words = s .args .words .now in
+    let l = c .before .loop in
+    laid words (s .pre) (first-nowhere (badContents words) (suc (countR words)) (l .r) (omega arith) (l .inv .1))
+
 returns-2 : tie.Need-returns-2 Inv-loop μ-loop
 returns-2 c =
-    let words = c .before .before .before .before .args .words .now in
-    let l = c .before .loop in
-    found-nowhere (badContents words) Contents (suc (countR words)) (l .r) (omega arith) (l .inv .1)
+    let words = c .before .before .before .before .before .args .words .now in
+    let l = c .before .before .loop in
+    c .symbols .ensures ∙ found-nowhere (badContents words) Contents (checked (symbolStage ∷ []) words) (suc (countR words)) (l .r) (omega arith) (l .inv .1)
 
 pub contents-spec : {M : Type 1} → statement M
 contents-spec =
@@ -85,4 +96,5 @@ contents-spec =
     add-r
     loop-less
     loop-again
+    symbols-requires
     returns-2)

@@ -1,10 +1,13 @@
--- `forms` finds the first rule of bad form: it has passed only good ones.
+-- `forms` finds the first rule of bad form: it has passed only good ones; past the last the twins decide.
 use Prim.Native.Nat.{_-_, _≤_}
 use mathlib.Core.Path.{sym, _∙_}
+use mathlib.Core.List.{[], _∷_}
 use native.Mathlib.Omega.{arith}
 use lib.ListN.{length}
 use Rattle.refusals.specs.declared.Refusal.the-variants.{Form}
+use Rattle.language.specs.Stages.{checked}
 use Rattle.language.specs.CheckForm.{badForm}
+use Rattle.language.specs.CheckTwins.{twinStage}
 use Rattle.language.specs.Words.{grammarOf}
 use Rattle.language.specs.WordsInRange.{rules-count}
 use Rattle.table.specs.Search.{Clear, clear-none, clear-more, found-at, found-nowhere}
@@ -34,7 +37,7 @@ returns : tie.Need-returns Inv-loop μ-loop
 returns c =
     let words = c .before .before .before .before .before .before .args .words .now in
     let l = c .before .before .before .loop in
-    found-at (badForm (grammarOf words)) Form (length (grammarOf words .rules)) (l .r) (omega (arith, rules-count words)) (l .inv .1)
+    found-at (badForm (grammarOf words)) Form (checked (twinStage ∷ []) words) (length (grammarOf words .rules)) (l .r) (omega (arith, rules-count words)) (l .inv .1)
     (sym (c .before .bad-form .ensures) ∙ c .if1 .taken)
 
 add-r : tie.Need-add-r Inv-loop μ-loop
@@ -49,11 +52,14 @@ loop-again c =
     let l = c .before .before .before .loop in
     (omega arith, clear-more (badForm (grammarOf words)) (l .r) (l .inv .1) (sym (c .before .bad-form .ensures) ∙ c .if1 .left))
 
+twins-requires : tie.Need-twins-requires Inv-loop μ-loop
+twins-requires c κs = c .before .before .before .before .pre
+
 returns-2 : tie.Need-returns-2 Inv-loop μ-loop
 returns-2 c =
-    let words = c .before .before .before .before .args .words .now in
-    let l = c .before .loop in
-    found-nowhere (badForm (grammarOf words)) Form (length (grammarOf words .rules)) (l .r) (omega (arith, rules-count words)) (l .inv .1)
+    let words = c .before .before .before .before .before .args .words .now in
+    let l = c .before .before .loop in
+    c .twins .ensures ∙ found-nowhere (badForm (grammarOf words)) Form (checked (twinStage ∷ []) words) (length (grammarOf words .rules)) (l .r) (omega (arith, rules-count words)) (l .inv .1)
 
 pub forms-spec : {M : Type 1} → statement M
 forms-spec =
@@ -69,4 +75,5 @@ forms-spec =
     add-r
     loop-less
     loop-again
+    twins-requires
     returns-2)

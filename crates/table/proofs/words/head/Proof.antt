@@ -1,10 +1,16 @@
--- `head` finds the first bad head word: it has passed only good ones.
+-- `head` finds the first bad head word: it has passed only good ones; past the last the contents decide.
 use Prim.Native.Nat.{_≤_, _-_}
 use mathlib.Core.Path.{sym, _∙_}
+use mathlib.Core.List.{[], _∷_}
 use native.Mathlib.Omega.{arith}
 use borrow.Author.Needs.{needs}
 use Rattle.refusals.specs.declared.Refusal.the-variants.{Head}
+use Rattle.laws.specs.Least.{first-nowhere}
+use Rattle.language.specs.Stages.{checked}
 use Rattle.language.specs.CheckHead.{badHead}
+use Rattle.language.specs.CheckContents.{contentsStage}
+use Rattle.language.specs.CheckSymbols.{symbolStage}
+use Rattle.table.specs.Laid.{headed}
 use Rattle.table.specs.Search.{Clear, clear-none, clear-more, found-at, found-nowhere}
 use Rattle.table.proofs.words.head.Statement.{statement}
 use Rattle.table.proofs.words.head.Tie as tie
@@ -26,8 +32,9 @@ cast-t5 c = omega arith
 
 returns : tie.Need-returns Inv-loop μ-loop
 returns c =
+    let words = c .before .before .before .before .before .args .words .now in
     let l = c .before .before .before .loop in
-    found-at (badHead (c .before .before .before .before .before .args .words .now)) Head 4 (l .i) (omega arith) (l .inv .1) (sym (c .before .bad-head .ensures) ∙ c .if1 .taken)
+    found-at (badHead words) Head (checked (contentsStage ∷ symbolStage ∷ []) words) 4 (l .i) (omega arith) (l .inv .1) (sym (c .before .bad-head .ensures) ∙ c .if1 .taken)
 
 add-i : tie.Need-add-i Inv-loop μ-loop
 add-i c = omega arith
@@ -40,8 +47,17 @@ loop-again c =
     let l = c .before .before .before .loop in
     (omega arith, clear-more (badHead (c .before .before .before .before .before .args .words .now)) (l .i) (l .inv .1) (sym (c .before .bad-head .ensures) ∙ c .if1 .left))
 
+contents-requires : tie.Need-contents-requires Inv-loop μ-loop
+contents-requires c κs =
+    let words = c .before .before .before .args .words .now in
+    let l = c .before .loop in
+    headed words (first-nowhere (badHead words) 4 (l .i) (c .loop-test .left) (l .inv .1))
+
 returns-2 : tie.Need-returns-2 Inv-loop μ-loop
-returns-2 c = let l = c .before .loop in found-nowhere (badHead (c .before .before .before .args .words .now)) Head 4 (l .i) (omega arith) (l .inv .1)
+returns-2 c =
+    let words = c .before .before .before .before .args .words .now in
+    let l = c .before .before .loop in
+    c .contents .ensures ∙ found-nowhere (badHead words) Head (checked (contentsStage ∷ symbolStage ∷ []) words) 4 (l .i) (c .before .loop-test .left) (l .inv .1)
 
 pub head-spec : {M : Type 1} → statement M
 head-spec =
@@ -56,4 +72,5 @@ head-spec =
     add-i
     loop-less
     loop-again
+    contents-requires
     returns-2)
