@@ -1,8 +1,8 @@
 -- Tests that the code joins by `&`, `|` and `!` are the choices and the lists of tests that Shape states.
 -- Rests on laws' Picks and on specs' Shape.
 --
--- Main statements: all2 to all6; kept, left; and for each function that joins tests what they are together.
-use mathlib.Core.Path.{_≡_, refl, sym, ap, _∙_}
+-- Main statements: all2 to all6; and for each function that joins tests what they are together.
+use mathlib.Core.Path.{_≡_, refl, sym, _∙_}
 use mathlib.Core.Bool.{Bool, true, false, not, _&&_, _||_, and-false, or-false, false≢true, true≢false}
 use mathlib.Core.List.{List, [], _∷_}
 use Prim.Native.Nat.{ℕ, _+_, _*_, _-_, _≤_}
@@ -11,12 +11,13 @@ use native.Mathlib.Decide.{decLe}
 use mir.Val.{boolByte}
 use lib.Dec.{leb, ltb, eqb}
 use lib.ListN.{length, getD, drop}
-use borrow.Author.Tests.{eq-eqb, ne-eqb, lt-leb, le-leb, not-true, not-false}
+use borrow.Author.Tests.{eq-eqb, ne-eqb, lt-leb, le-leb}
 use Rattle.laws.specs.Picks.{pick, allOf}
 use Rattle.area.specs.declared.shape.Scan.{Scan}
 use Rattle.area.specs.declared.shape.Walk.{Walk}
 use Rattle.area.specs.Layout.{need, slotsAt, madeAtWord}
-use Rattle.area.specs.Shape.{byteFits, ruleC, symbolFits, placeFits, tag, oneIfTerminal, broken, opened, inner, sideFits, statusFits, goneFits, boundsFit, stuckFits, sidesFit, firstFits, endFits, ruleI, ruleJ, blank, ruleK, walkFits}
+use Rattle.area.specs.Shape.{byteFits, ruleC, symbolFits, placeFits, tag, oneIfTerminal, broken, opened, inner, sideFits, statusFits, goneFits, boundsFit}
+use Rattle.area.specs.Shape.{stuckFits, sidesFit, firstFits, endFits, ruleI, ruleJ, blank, ruleK, walkFits}
 
 -- ---- every test of a list
 
@@ -73,27 +74,10 @@ module _ {A : Type 0} (x y : A) where
   one-left4 true b c d h = one-left3 b c d h
   one-left4 false b c d h = refl
 
-  -- two tests as one
-  joined : (a b : Bool) → pick (pick a b false) x y ≡ pick a (pick b x y) y
-  joined true b = refl
-  joined false b = refl
-
-  -- the code holds the value of the two tests in a result
-  module _ (a b : Bool) {p : Bool} (e : p ≡ pick a b false) where
-    pub kept : not p ≡ false → pick a (pick b x y) y ≡ x
-    kept h = sym (joined a b) ∙ ap (λ c. pick c x y) (sym e ∙ not-false p h)
-
-    pub left : not p ≡ true → pick a (pick b x y) y ≡ y
-    left h = sym (joined a b) ∙ ap (λ c. pick c x y) (sym e ∙ not-true p h)
-
 pub kept-both : (a b : Bool) → not (a && b) ≡ false → (a ≡ true) × (b ≡ true)
 kept-both true true h = (refl, refl)
 kept-both true false h = absurd (true≢false h)
 kept-both false b h = absurd (true≢false h)
-
-pub second-of : (a b : Bool) → pick a b false ≡ true → b ≡ true
-second-of true b h = h
-second-of false b h = absurd (false≢true h)
 
 -- a truth as a number
 module _ (a : Bool) where
@@ -311,31 +295,35 @@ walk-tests area w d e f g i j k l =
     rw (d, e, f, g, i, j, k, l, unless (eqb (getD area 5 0) 0) (leb 1 (getD area 7 0)))
     (all6 (w .ok) (firstFits area) (endFits area w) (ruleI area w) (ruleJ area w) (ruleK area w))
 
--- a row of the table: live, gone as it should be, or wrong
-module _ {A : Type 0} (live gone wrong : A) (a b c : Bool) where
-  pub row-live : (a && not b) ≡ true → live ≡ pick a (pick b (pick c gone wrong) live) wrong
-  row-live h = go a b h
-    where
-      go : (a b : Bool) → (a && not b) ≡ true → live ≡ pick a (pick b (pick c gone wrong) live) wrong
-      go true true h = absurd (false≢true h)
-      go true false h = refl
-      go false b h = absurd (false≢true h)
+-- a row of the table: gone as it should be, wrong, or live with a right status and bounds
+module _ {A : Type 0} (live gone wrong : A) where
+  abbrev row : Bool → Bool → Bool → Bool → Bool → A
+  row ok none zeros status bounds = pick ok (pick none (pick zeros gone wrong) (pick status (pick bounds live wrong) wrong)) wrong
 
-  module _ (h : (a && not b) ≡ false) where
-    pub row-gone : (a && c) ≡ true → gone ≡ pick a (pick b (pick c gone wrong) live) wrong
-    row-gone k = go a b c h k
-      where
-        go : (a b c : Bool) → (a && not b) ≡ false → (a && c) ≡ true → gone ≡ pick a (pick b (pick c gone wrong) live) wrong
-        go true true true h k = refl
-        go true true false h k = absurd (false≢true k)
-        go true false c h k = absurd (true≢false h)
-        go false b c h k = absurd (false≢true k)
+  pub row-gone : (a b c s d : Bool) → (a && b && c) ≡ true → gone ≡ row a b c s d
+  row-gone true true true s d h = refl
+  row-gone true true false s d h = absurd (false≢true h)
+  row-gone true false c s d h = absurd (false≢true h)
+  row-gone false b c s d h = absurd (false≢true h)
 
-    pub row-wrong : (a && c) ≡ false → wrong ≡ pick a (pick b (pick c gone wrong) live) wrong
-    row-wrong k = go a b c h k
-      where
-        go : (a b c : Bool) → (a && not b) ≡ false → (a && c) ≡ false → wrong ≡ pick a (pick b (pick c gone wrong) live) wrong
-        go true true true h k = absurd (true≢false k)
-        go true true false h k = refl
-        go true false c h k = absurd (true≢false h)
-        go false b c h k = refl
+  pub row-wrong : (a b c s d : Bool) → (a && b && c) ≡ false → not (a && pick s d false) ≡ true → wrong ≡ row a b c s d
+  row-wrong true true true s d h k = absurd (true≢false h)
+  row-wrong true true false s d h k = refl
+  row-wrong true false c true true h k = absurd (false≢true k)
+  row-wrong true false c true false h k = refl
+  row-wrong true false c false d h k = refl
+  row-wrong false b c s d h k = refl
+
+  pub row-live : (a b c s d : Bool) → not (a && pick s d false) ≡ false → (s ≡ true → b ≡ false) → live ≡ row a b c s d
+  row-live true true c true d k l = absurd (true≢false (l refl))
+  row-live true false c true true k l = refl
+  row-live true false c true false k l = absurd (true≢false k)
+  row-live true b c false d k l = absurd (true≢false k)
+  row-live false b c s d k l = absurd (true≢false k)
+
+-- both tests of a row that is live
+pub row-bounds : (a s d : Bool) → not (a && pick s d false) ≡ false → d ≡ true
+row-bounds true true true k = refl
+row-bounds true true false k = absurd (true≢false k)
+row-bounds true false d k = absurd (true≢false k)
+row-bounds false s d k = absurd (true≢false k)

@@ -1,7 +1,7 @@
 -- What the proofs of the shape check's functions share: each test one step on, and the bounds that its counts keep.
 -- Rests on specs' Shape and ShapeCode.
 --
--- Main statements: headed; rows-fit, row-fails; sized-of; scan-more, side-few; blank-more; countable, line-within.
+-- Main statements: headed; bytes-fit, byte-fails; sized-of; scan-more, side-few; blank-more; countable, line-within.
 use Prim.Native.Nat.{ℕ, zero, suc, _+_, _*_, _-_, _/_, _%_, _<_, _≤_, _^_}
 use mir.Syntax.{w16, w64}
 use mir.Val.{Fits}
@@ -27,10 +27,12 @@ use Rattle.language.specs.WordsInRange.{few-terminals, few-nonterminals}
 use Rattle.area.specs.declared.shape.Scan.{Scan}
 use Rattle.area.specs.declared.shape.Walk.{Walk}
 use Rattle.area.specs.Layout.{need, slotsAt}
-use Rattle.area.specs.Shape.{isDone, ruleA, grammarInShape, byteFits, ruleB, ruleC, symbolFits, placeFits, tag, oneIfTerminal, broken, opened, inner, scanSlot, scanned, freshScan, side, boundsFit, statusFits, goneFits, sidesFit, fallen, counted, liveLine, lineOf, walkOf, blank, walkFits, areaInShape, inShape}
+use Rattle.area.specs.Shape.{isDone, ruleA, grammarInShape, byteFits, ruleB, ruleC, symbolFits, placeFits, tag, oneIfTerminal, broken, opened, inner}
+use Rattle.area.specs.Shape.{scanSlot, scanned, freshScan, side, boundsFit, statusFits, goneFits, sidesFit, fallen, counted, lineOf, walkOf, blank}
+use Rattle.area.specs.Shape.{walkFits, areaInShape, inShape}
 use Rattle.area.specs.WordsOfShape.{rule-a-exactly}
-use Rattle.area.proofs.Joined.{kept, left}
-use Rattle.area.specs.ShapeCode.{rowFits, Sized, Few, Within, Countable}
+use Rattle.area.proofs.Joined.{gone-tests, row-gone, row-wrong, row-live, row-bounds}
+use Rattle.area.specs.ShapeCode.{Sized, Few, Within, Countable}
 
 pub tag-last : (k l : ℕ) → k ≤ 1 → l ≡ tag (k - 1) l
 tag-last k l h = let e : k - 1 ≡ 0 = omega arith in rw e
@@ -59,10 +61,10 @@ module _ (words matrix : List ℕ) where
 -- ---- (b)
 
 module _ (test : ℕ → Bool) (k : ℕ) where
-  pub all-pass : ((v : ℕ) → v < k → test v ≡ true) → all test (upTo k) ≡ true
+  all-pass : ((v : ℕ) → v < k → test v ≡ true) → all test (upTo k) ≡ true
   all-pass h = each-all test (upTo k) (λ v m. h v (upTo-below k v m))
 
-  pub one-fails : (v : ℕ) → v < k → test v ≡ false → all test (upTo k) ≡ false
+  one-fails : (v : ℕ) → v < k → test v ≡ false → all test (upTo k) ≡ false
   one-fails v h e = false-unless (all test (upTo k)) (λ p. not-both (test v) (all-each test (below-upTo k v h) p) e)
 
 second-fails : (a b : Bool) → b ≡ false → pick a b false ≡ false
@@ -70,41 +72,24 @@ second-fails true b k = k
 second-fails false b k = refl
 
 module _ (t : ℕ) (matrix : List ℕ) where
-  abbrev byte : ℕ → Bool
-  byte v = byteFits t (v / 64) (v % 64) (getD matrix v 0)
+  -- the byte of v / 64 over v % 64
+  abbrev pub byteAt : ℕ → Bool
+  byteAt v = byteFits t (v / 64) (v % 64) (getD matrix v 0)
 
-  abbrev pub byteOver : ℕ → ℕ → Bool
-  byteOver a b = byteFits t a b (getD matrix (64 * a + b) 0)
-
-  byte-over : (a b : ℕ) → b < 64 → byte (64 * a + b) ≡ byteOver a b
-  byte-over a b h =
-      let e : (64 * a + b) / 64 ≡ a = omega arith in
-      let f : (64 * a + b) % 64 ≡ b = omega arith in
-      rw (e, f)
+  pub byte-here : (at a b : ℕ) → at ≡ 64 * a + b → b < 64 → byteAt at ≡ byteFits t a b (getD matrix at 0)
+  byte-here at a b e h =
+      let p : at / 64 ≡ a = omega arith in
+      let q : at % 64 ≡ b = omega arith in
+      rw (p, q)
 
   pub short-fails : length matrix < 4096 → ruleB t matrix ≡ false
-  short-fails h = ap (λ (b : Bool). pick b (all byte (upTo 4096)) false) (lt-leb 4096 (length matrix) h)
+  short-fails h = ap (λ (b : Bool). pick b (all byteAt (upTo 4096)) false) (lt-leb 4096 (length matrix) h)
 
-  -- each row fits, so each byte does
-  pub rows-fit : 4096 ≤ length matrix → ((a : ℕ) → a < 64 → rowFits t matrix a ≡ true) → ruleB t matrix ≡ true
-  unfolding rowFits
-  rows-fit long rows = both-pick (leb 4096 (length matrix)) (all byte (upTo 4096)) (le-leb 4096 (length matrix) long) (all-pass byte 4096 fits)
-    where
-      fits : (v : ℕ) → v < 4096 → byte v ≡ true
-      fits v h =
-          let e : 64 * (v / 64) + v % 64 ≡ v = omega arith in
-          let a : v / 64 < 64 = omega arith in
-          let b : v % 64 < 64 = omega arith in
-          ap byte (sym e) ∙ byte-over (v / 64) (v % 64) b ∙ all-each (byteOver (v / 64)) (below-upTo 64 (v % 64) b) (rows (v / 64) a)
+  pub bytes-fit : 4096 ≤ length matrix → ((v : ℕ) → v < 4096 → byteAt v ≡ true) → ruleB t matrix ≡ true
+  bytes-fit long fits = both-pick (leb 4096 (length matrix)) (all byteAt (upTo 4096)) (le-leb 4096 (length matrix) long) (all-pass byteAt 4096 fits)
 
-  -- a row that does not fit has a byte that does not
-  pub row-fails : (a : ℕ) → a < 64 → rowFits t matrix a ≡ false → ruleB t matrix ≡ false
-  unfolding rowFits
-  row-fails a h e =
-      second-fails (leb 4096 (length matrix)) (all byte (upTo 4096)) (false-unless (all byte (upTo 4096)) (λ p. not-both (rowFits t matrix a) (passes p) e))
-    where
-      passes : all byte (upTo 4096) ≡ true → rowFits t matrix a ≡ true
-      passes p = all-pass (byteOver a) 64 (λ b k. sym (byte-over a b k) ∙ all-each byte (below-upTo 4096 (64 * a + b) (omega arith)) p)
+  pub byte-fails : (v : ℕ) → v < 4096 → byteAt v ≡ false → ruleB t matrix ≡ false
+  byte-fails v h e = second-fails (leb 4096 (length matrix)) (all byteAt (upTo 4096)) (one-fails byteAt 4096 v h e)
 
 -- ---- (c)
 
@@ -308,22 +293,48 @@ product-below a b ha hb =
     let j : b ≤ 65535 = omega arith in
     omega (arith, mul-le-mul-right b i, mul-le-mul-left 65535 j)
 
--- ---- a live chunk's row, from the values that the code holds
+-- ---- a row of the table, from the values that the code holds
 
-module _ (t n : ℕ) (area : List ℕ) (w : Walk) (x f h e y : ℕ) {p : Bool} (bounds : p ≡ pick (statusFits x) (boundsFit (getD area 0 0) (w .at) f h e) false) where
-  pub line-unfit : not p ≡ true → fallen ≡ liveLine t n area w x f h e y
-  line-unfit k = sym (left _ _ (statusFits x) (boundsFit (getD area 0 0) (w .at) f h e) bounds k)
+-- a status that fits is not that of a gone chunk
+status-some : (x : ℕ) → statusFits x ≡ true → eqb x 0 ≡ false
+status-some x e = ne-eqb x 0 (λ z. false≢true (rw z at e))
 
-  module _ (k : not p ≡ false) {stack unread : Scan} {r : Bool} (ss : stack ≡ side t n area f h) (us : unread ≡ side t n area h e)
-      (rs : r ≡ sidesFit stack unread x h e y) where
-    sides : r ≡ sidesFit (side t n area f h) (side t n area h e) x h e y
-    sides = rw (ss, us) at rs
+module _ (t n : ℕ) (area : List ℕ) (w : Walk) (x f h e y : ℕ) where
+  abbrev status : Bool
+  status = statusFits x
 
-    pub sides-unfit : not r ≡ true → fallen ≡ liveLine t n area w x f h e y
-    sides-unfit j = sym (kept _ _ (statusFits x) (boundsFit (getD area 0 0) (w .at) f h e) bounds k ∙ simp (sym sides ∙ not-true r j))
+  abbrev bounds : Bool
+  bounds = boundsFit (getD area 0 0) (w .at) f h e
 
-    pub line-fit : not r ≡ false → counted w stack unread x e ≡ liveLine t n area w x f h e y
-    line-fit j = rw (ss, us) (sym (kept _ _ (statusFits x) (boundsFit (getD area 0 0) (w .at) f h e) bounds k ∙ simp (sym sides ∙ not-false r j)))
+  abbrev next : Walk
+  next = pick (sidesFit (side t n area f h) (side t n area h e) x h e y) (counted w (side t n area f h) (side t n area h e) x e) fallen
+
+  pub line-gone : (w .ok && eqb x 0 && (eqb f 0 && eqb h 0 && eqb e 0 && eqb y 0)) ≡ true → w ≡ lineOf t n area w x f h e y
+  unfolding lineOf
+  line-gone g = row-gone next w fallen (w .ok) (eqb x 0) (goneFits f h e y) status bounds (rw (gone-tests f h e y) at g)
+
+  module _ {p : Bool} (d : p ≡ pick status bounds false) where
+    pub line-unfit : (w .ok && eqb x 0 && (eqb f 0 && eqb h 0 && eqb e 0 && eqb y 0)) ≡ false → not (w .ok && p) ≡ true → fallen ≡ lineOf t n area w x f h e y
+    unfolding lineOf
+    line-unfit g k = row-wrong next w fallen (w .ok) (eqb x 0) (goneFits f h e y) status bounds (rw (gone-tests f h e y) at g) (rw d at k)
+
+    module _ (k : not (w .ok && p) ≡ false) where
+      pub line-bounded : Bounded (getD area 0 0) (w .at) f h e
+      line-bounded = bounded-of (getD area 0 0) (w .at) f h e (row-bounds (w .ok) status bounds (rw d at k))
+
+      by-sides : next ≡ lineOf t n area w x f h e y
+      unfolding lineOf
+      by-sides = row-live next w fallen (w .ok) (eqb x 0) (goneFits f h e y) status bounds (rw d at k) (status-some x)
+
+      module _ {stack unread : Scan} {r : Bool} (ss : stack ≡ side t n area f h) (us : unread ≡ side t n area h e) (rs : r ≡ sidesFit stack unread x h e y) where
+        sides : r ≡ sidesFit (side t n area f h) (side t n area h e) x h e y
+        sides = rw (ss, us) at rs
+
+        pub sides-unfit : not r ≡ true → fallen ≡ lineOf t n area w x f h e y
+        sides-unfit j = (let q : next ≡ fallen = simp (sym sides ∙ not-true r j) in sym q) ∙ by-sides
+
+        pub line-fit : not r ≡ false → counted w stack unread x e ≡ lineOf t n area w x f h e y
+        line-fit j = rw (ss, us) ((let q : next ≡ counted w (side t n area f h) (side t n area h e) x e = simp (sym sides ∙ not-false r j) in sym q) ∙ by-sides)
 
 -- ---- words that are read one after another, from a place on
 

@@ -3,8 +3,10 @@
 -- Rests on Start, StartWords and StartChecks.
 --
 -- Main statements: rows-more, rows-last, slots-more, slots-last, zeros-more, zeros-last (a turn of each loop, and its end),
--- start-stored; area-kept, area-started (what start leaves).
+-- slots-stored, start-stored; refuses, area-started (what start leaves).
 use mathlib.Core.Path.{_≡_, sym, ap, _∙_}
+use mir.Syntax.{w16, w32, w64}
+use mir.Val.{Fits}
 use mathlib.Core.List.{List, _++_}
 use Prim.Native.Nat.{ℕ, suc, _+_, _*_, _-_, _≤_, _<_}
 use native.Mathlib.Numerals.{add-one, add-four, add-five}
@@ -16,7 +18,8 @@ use Rattle.refusals.specs.declared.Refusal.{Refusal}
 use Rattle.refusals.specs.declared.Answer.the-variants.{Done, Refused}
 use Rattle.area.specs.Layout.{need, zeros}
 use Rattle.area.specs.Start.{startAnswer, startedArea, startArea}
-use Rattle.area.specs.StartWords.{startFront, startRow, startRows, startSlot, unreadSlots, startSlots, startWords, length-start-rows, length-start-slots, start-words, start-words-length}
+use Rattle.area.specs.StartWords.{startFront, startRow, startRows, startSlot, unreadSlots, startSlots, startWords, length-start-rows, length-start-slots}
+use Rattle.area.specs.StartWords.{start-words, start-words-length}
 use Rattle.area.specs.StartChecks.{Writable, writable, right-cuts}
 
 module _ (area cuts : List ℕ) (n from head at i : ℕ) where
@@ -49,49 +52,84 @@ module _ (area : List ℕ) (from count i : ℕ) where
   pub zeros-last : count ≤ i → sets area (from + i) (zeros (count - i)) ≡ area
   zeros-last h = let e : count - i ≡ 0 = omega arith in rw e
 
-pub zeros-first : (area : List ℕ) (from count : ℕ) → sets area (from + 0) (zeros (count - 0)) ≡ sets area from (zeros count)
-zeros-first area from count =
-    let e : from + 0 ≡ from = omega arith in
-    let f : count - 0 ≡ count = omega arith in
-    rw (e, f)
+-- .. of which at first none is stored
+pub none-more : (from : ℕ) → from + 0 ≡ from
+none-more from = omega arith
+
+pub none-less : (count : ℕ) → count - 0 ≡ count
+none-less count = omega arith
+
+-- the slots and then the zeros, one after the other
+pub slots-stored : (area tokens : List ℕ) (base made : ℕ) → made ≡ base + 4 * (length tokens + 2)
+    → sets (sets area base (startSlots tokens)) made (zeros (3 * length tokens)) ≡ sets area base (startSlots tokens ++ zeros (3 * length tokens))
+slots-stored area tokens base made e =
+    let m : made ≡ base + length (startSlots tokens) = omega (arith, length-start-slots tokens) in
+    sym (sets-append area base (startSlots tokens) (zeros (3 * length tokens)) ∙ ap (λ k. sets (sets area base (startSlots tokens)) k (zeros (3 * length tokens))) (sym m))
+
+-- ---- the numbers of start
+
+pub token-fits : {i n : ℕ} → i < n → n ≤ 16384 → Fits w32 i
+token-fits h few = omega arith
+
+pub cut-fits : {i : ℕ} → i ≤ 63 → Fits w32 i
+cut-fits low = omega arith
+
+pub count-fits : {n : ℕ} → n ≤ 16384 → Fits w16 n
+count-fits few = omega arith
+
+-- the words needed, where the search of the cuts has stopped at most at 63
+module _ {n count stop : ℕ} (few : n ≤ 16384) (h : count ≤ stop) (low : stop ≤ 63) where
+  pub seven-fit : Fits w64 (7 * n)
+  seven-fit = omega arith
+
+  pub chunks-fit : Fits w64 (count + 1)
+  chunks-fit = omega arith
+
+  pub rows-fit : Fits w64 (5 * (count + 1))
+  rows-fit = omega arith
+
+  pub both-fit : Fits w64 (7 * n + 5 * (count + 1))
+  both-fit = omega arith
+
+  pub need-fits : Fits w64 (7 * n + 5 * (count + 1) + 13)
+  need-fits = omega arith
+
+  pub need-told : Fits w32 (7 * n + 5 * (count + 1) + 13)
+  need-told = omega arith
+
+-- ---- the whole
 
 -- the words of the row are there, in an area that is as long as the one lent
-module _ {tokens cuts : List ℕ} {room : ℕ} (can : Writable tokens cuts room) {long : ℕ} (e : long ≡ room) where
-  pub slots-there : 5 + 5 * (length cuts + 1) + 4 * (length tokens + 2) ≤ long
-  slots-there = omega (arith, can .enough)
+pub slots-there : {tokens cuts : List ℕ} {room : ℕ} → Writable tokens cuts room → {long : ℕ} → long ≡ room
+    → 5 + 5 * (length cuts + 1) + 4 * (length tokens + 2) + 3 * length tokens ≤ long
+slots-there can e = omega (arith, can .enough)
 
-  pub made-there : 5 + 5 * (length cuts + 1) + 4 * (length tokens + 2) + 3 * length tokens ≤ long
-  made-there = omega (arith, can .enough)
-
-module _ (area tokens cuts : List ℕ) where
-  -- the front, the table, the slots and the reductions, one after the other
-  pub start-stored : (slotsAt madeAt : ℕ) → slotsAt ≡ 5 + 5 * (length cuts + 1) → madeAt ≡ slotsAt + 4 * (length tokens + 2)
-      → sets (sets (sets (sets area 0 (startFront (length tokens) (length cuts + 1))) 5 (startRows (length tokens) 0 1 cuts)) slotsAt (startSlots tokens)) madeAt (zeros (3 * length tokens))
-      ≡ sets area 0 (startWords tokens cuts)
-  unfolding startWords
-  start-stored slotsAt madeAt e f =
-      let front : List ℕ = startFront (length tokens) (length cuts + 1) in
-      let table : List ℕ = startRows (length tokens) 0 1 cuts in
-      let made : List ℕ = zeros (3 * length tokens) in
-      let a : slotsAt ≡ 5 + length table = omega (arith, length-start-rows (length tokens) 0 1 cuts) in
-      let b : madeAt ≡ slotsAt + length (startSlots tokens) = omega (arith, length-start-slots tokens) in
-      sym (sets-append (sets area 0 front) 5 table (startSlots tokens ++ made)
-      ∙ ap (λ k. sets (sets (sets area 0 front) 5 table) k (startSlots tokens ++ made)) (sym a)
-      ∙ sets-append (sets (sets area 0 front) 5 table) slotsAt (startSlots tokens) made
-      ∙ ap (λ k. sets (sets (sets (sets area 0 front) 5 table) slotsAt (startSlots tokens)) k made) (sym b))
+-- the front, the table, and the slots with the reductions, one after the other
+pub start-stored : (area tokens cuts : List ℕ)
+    → sets (sets (sets area 0 (startFront (length tokens) (length cuts + 1))) 5 (startRows (length tokens) 0 1 cuts)) (5 + 5 * (length cuts + 1))
+    (startSlots tokens ++ zeros (3 * length tokens))
+    ≡ sets area 0 (startWords tokens cuts)
+unfolding startWords
+start-stored area tokens cuts =
+    let front : List ℕ = startFront (length tokens) (length cuts + 1) in
+    let table : List ℕ = startRows (length tokens) 0 1 cuts in
+    let rest : List ℕ = startSlots tokens ++ zeros (3 * length tokens) in
+    let a : 5 + 5 * (length cuts + 1) ≡ 5 + length table = omega (arith, length-start-rows (length tokens) 0 1 cuts) in
+    sym (sets-append (sets area 0 front) 5 table rest ∙ ap (λ k. sets (sets (sets area 0 front) 5 table) k rest) (sym a))
 
 module _ (words matrix tokens cuts area : List ℕ) where
   -- a refusal leaves the area as it was
-  pub area-kept : (refusal : Refusal) → startAnswer words matrix tokens cuts (length area) ≡ Refused refusal → startArea words matrix tokens cuts area ≡ area
+  pub refuses : (refusal : Refusal) → Refused refusal ≡ startAnswer words matrix tokens cuts (length area)
+      → (Refused refusal ≡ startAnswer words matrix tokens cuts (length area)) × (area ≡ startArea words matrix tokens cuts area)
   unfolding startArea
-  area-kept refusal e = ap (λ answer. startedArea answer tokens cuts area) e
+  refuses refusal e = (e, ap (λ answer. startedArea answer tokens cuts area) e)
 
   -- a row that starts leaves the words of the machine's start, and what stood beyond
-  pub area-started : startAnswer words matrix tokens cuts (length area) ≡ Done → sets area 0 (startWords tokens cuts) ≡ startArea words matrix tokens cuts area
+  pub area-started : Done ≡ startAnswer words matrix tokens cuts (length area) → sets area 0 (startWords tokens cuts) ≡ startArea words matrix tokens cuts area
   unfolding startArea
   area-started e =
       let l = start-words-length tokens cuts in
-      let room = writable words matrix tokens cuts (length area) e .enough in
+      let room = writable words matrix tokens cuts (length area) (sym e) .enough in
       let all : 0 + length (startWords tokens cuts) ≡ need (length tokens) (length cuts + 1) = omega arith in
       sets-eq (startWords tokens cuts) area 0 (omega arith)
-      ∙ rw (all, start-words tokens cuts (right-cuts words matrix tokens cuts (length area) e)) (ap (λ answer. startedArea answer tokens cuts area) (sym e))
+      ∙ rw (all, start-words tokens cuts (right-cuts words matrix tokens cuts (length area) (sym e))) (ap (λ answer. startedArea answer tokens cuts area) e)

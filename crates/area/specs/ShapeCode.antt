@@ -1,22 +1,15 @@
--- What the code of the shape check is stated by, besides Shape's tests: the facts that keep it within its numbers, and one row of the
--- matrix. The counts of a scan and of a walk are at most the slots and the rows of the table passed.
+-- What the code of the shape check is stated by, besides Shape's tests: the facts that keep it within its numbers. The
+-- counts of a scan and of a walk are at most the slots and the rows of the table passed.
 -- Document 01, 15 BAD STATE, and "Grammar, tokens, cuts, work area and report are lent u16 slices".
--- Rests on Shape.
+-- Rests on Layout.
 --
--- Main definitions: Sized, Few, Within, Countable, rowFits.
-use mathlib.Core.Bool.{Bool}
+-- Main definitions: Sized, Few, Within, Countable.
 use mathlib.Core.List.{List}
-use Prim.Native.Nat.{ℕ, _+_, _*_, _≤_, _<_}
+use Prim.Native.Nat.{ℕ, _+_, _≤_}
 use lib.ListN.{length, getD}
-use Rattle.laws.specs.Tests.{all, upTo}
 use Rattle.area.specs.declared.shape.Scan.{Scan}
 use Rattle.area.specs.declared.shape.Walk.{Walk}
 use Rattle.area.specs.Layout.{need}
-use Rattle.area.specs.Shape.{byteFits}
-
--- (b) the bytes of a over every b
-unfoldable pub rowFits : ℕ → List ℕ → ℕ → Bool
-rowFits t matrix a = all (λ b. byteFits t a b (getD matrix (64 * a + b) 0)) (upTo 64)
 
 -- (c) as facts
 pub record Sized (area : List ℕ) : Type 0 where

@@ -6,7 +6,7 @@
 -- Main definitions: startAnswer, startArea.
 -- Main statements: bad-state-given, empty-given, too-long-given, bad-token-given, bad-cut-given, start-room-given, starts-exactly.
 use mathlib.Core.Path.{_≡_, refl, sym, _∙_}
-use mathlib.Core.Bool.{Bool, true, false, false≢true, true≢false}
+use mathlib.Core.Bool.{Bool, true, false, _||_, false≢true, true≢false}
 use mathlib.Core.Logic.{_↔_}
 use mathlib.Core.List.{List, [], _∷_, _++_}
 use mathlib.Core.Option.{Option, none, some}
@@ -88,7 +88,7 @@ cutFalls cuts zero = false
 cutFalls cuts (suc i) = ltb (getD cuts (suc i) 0) (getD cuts i 0)
 
 abbrev pub badCutAt : ℕ → List ℕ → ℕ → Bool
-badCutAt n cuts i = elim (ltb n (getD cuts i 0)) [ true ↦ true | false ↦ cutFalls cuts i ]
+badCutAt n cuts i = ltb n (getD cuts i 0) || cutFalls cuts i
 
 abbrev pub cutStage : Stage StartInput
 cutStage = record {
@@ -144,7 +144,9 @@ module _ (input : StartInput) where
       of u (too-many h q) = (lt-ltb 16384 (length (input .tokens)) h, q)
 
   tokens-find : Finds (WrongToken input) (tokenStage .failsAt input)
-  tokens-find = first-finds (badTokenAt (countT (input .words)) (input .tokens)) (length (input .tokens)) (WrongToken input) (λ i h e. wrong-token h (outside-iff 1 (countT (input .words)) (getD (input .tokens) i 0) .0 e)) of
+  tokens-find =
+      first-finds (badTokenAt (countT (input .words)) (input .tokens)) (length (input .tokens)) (WrongToken input)
+      (λ i h e. wrong-token h (outside-iff 1 (countT (input .words)) (getD (input .tokens) i 0) .0 e)) of
     where
       of : (i : ℕ) → WrongToken input i → (i < length (input .tokens)) × (badTokenAt (countT (input .words)) (input .tokens) i ≡ true)
       of i (wrong-token h o) = (h, outside-iff 1 (countT (input .words)) (getD (input .tokens) i 0) .1 o)
@@ -157,7 +159,7 @@ module _ (input : StartInput) where
       falls (suc i) h e = cut-below few h (ltb-true (getD (input .cuts) (suc i) 0) (getD (input .cuts) i 0) e)
 
       go : (b : Bool) → ltb (length (input .tokens)) (getD (input .cuts) i 0) ≡ b
-          → elim b [ true ↦ true | false ↦ cutFalls (input .cuts) i ] ≡ true → WrongCut input i
+          → (b || cutFalls (input .cuts) i) ≡ true → WrongCut input i
       go true q e = cut-above few h (ltb-true (length (input .tokens)) (getD (input .cuts) i 0) q)
       go false q e = falls i h e
 
@@ -167,7 +169,7 @@ module _ (input : StartInput) where
   falls-bad : (i : ℕ) → cutFalls (input .cuts) i ≡ true → badCutAt (length (input .tokens)) (input .cuts) i ≡ true
   falls-bad i f = go (ltb (length (input .tokens)) (getD (input .cuts) i 0))
     where
-      go : (b : Bool) → elim b [ true ↦ true | false ↦ cutFalls (input .cuts) i ] ≡ true
+      go : (b : Bool) → (b || cutFalls (input .cuts) i) ≡ true
       go true = refl
       go false = f
 
@@ -200,7 +202,8 @@ module _ (input : StartInput) where
       of u (no-room h q) = (lt-ltb (input .room) (needed input) h, q)
 
   pub start-ready : Ready input startConditions
-  start-ready = finding shape-finds (λ a. finding empty-finds (λ b. finding length-finds (λ c. finding tokens-find (λ d. finding cuts-find (λ e. finding room-finds (λ f. ready))))))
+  start-ready =
+      finding shape-finds (λ a. finding empty-finds (λ b. finding length-finds (λ c. finding tokens-find (λ d. finding cuts-find (λ e. finding room-finds (λ f. ready))))))
 
 -- a row that can start: the conditions of 15, 7, 8, 9, 10 and 11 hold nowhere
 pub record Startable (input : StartInput) : Type 0 where
@@ -244,7 +247,11 @@ module _ (words matrix tokens cuts : List ℕ) (room : ℕ) where
 
   -- 15 is given exactly when the grammar or the matrix breaks a shape rule
   pub bad-state-given : (startAnswer words matrix tokens cuts room ≡ Refused BadState) ↔ (grammarInShape words matrix ≡ false)
-  bad-state-given = (λ e. out (told lent (by (Refused BadState) .0 e)), λ f. by (Refused BadState) .1 (fails {v = 0} (record { holds = grammar-broken f refl; least = λ u h g. absurd (omega arith) })))
+  bad-state-given = (
+    λ e. out (told lent (by (Refused BadState) .0 e)),
+    λ f. by (Refused BadState) .1
+        (fails {v = 0} (record { holds = grammar-broken f refl; least = λ u h g. absurd (omega arith) })),
+  )
     where
       broken : {v : ℕ} → GrammarBroken lent v → grammarInShape words matrix ≡ false
       broken (grammar-broken f q) = f
@@ -254,7 +261,11 @@ module _ (words matrix tokens cuts : List ℕ) (room : ℕ) where
 
   -- 7 is given exactly when 15 is not and there are no tokens
   pub empty-given : (startAnswer words matrix tokens cuts room ≡ Refused Empty) ↔ (Nowhere (GrammarBroken lent) × (length tokens ≡ 0))
-  empty-given = (λ e. out (told lent (by (Refused Empty) .0 e)), λ l. by (Refused Empty) .1 (passes (l .0) (fails {v = 0} (record { holds = no-tokens (l .1) refl; least = λ u h g. absurd (omega arith) }))))
+  empty-given = (
+    λ e. out (told lent (by (Refused Empty) .0 e)),
+    λ l. by (Refused Empty) .1
+        (passes (l .0) (fails {v = 0} (record { holds = no-tokens (l .1) refl; least = λ u h g. absurd (omega arith) }))),
+  )
     where
       empty : {v : ℕ} → NoTokens lent v → length tokens ≡ 0
       empty (no-tokens e q) = e
@@ -264,7 +275,11 @@ module _ (words matrix tokens cuts : List ℕ) (room : ℕ) where
 
   -- 8 is given exactly when 15 is not and there are more than 16,384 tokens
   pub too-long-given : (startAnswer words matrix tokens cuts room ≡ Refused TooLong) ↔ (Nowhere (GrammarBroken lent) × (16384 < length tokens))
-  too-long-given = (λ e. out (told lent (by (Refused TooLong) .0 e)), λ l. by (Refused TooLong) .1 (passes (l .0) (passes (some-of (l .1)) (fails {v = 0} (record { holds = too-many (l .1) refl; least = λ u h g. absurd (omega arith) })))))
+  too-long-given = (
+    λ e. out (told lent (by (Refused TooLong) .0 e)),
+    λ l. by (Refused TooLong) .1
+        (passes (l .0) (passes (some-of (l .1)) (fails {v = 0} (record { holds = too-many (l .1) refl; least = λ u h g. absurd (omega arith) })))),
+  )
     where
       some-of : 16384 < length tokens → (v : ℕ) → NoTokens lent v → ⊥
       some-of h v (no-tokens e q) = omega arith
@@ -286,7 +301,8 @@ module _ (words matrix tokens cuts : List ℕ) (room : ℕ) where
   -- 10 is given at v exactly when 15 and 7 to 9 are not, and there are more than 63 cuts and v is 63, or v is the first bad cut's index
   pub bad-cut-given : (v : ℕ) → (startAnswer words matrix tokens cuts room ≡ Refused (BadCut v))
       ↔ (Nowhere (GrammarBroken lent) × Nowhere (NoTokens lent) × Nowhere (TooMany lent) × Nowhere (WrongToken lent) × Least (WrongCut lent) v)
-  bad-cut-given v = (λ e. out (told lent (by (Refused (BadCut v)) .0 e)), λ l. by (Refused (BadCut v)) .1 (passes (l .0) (passes (l .1) (passes (l .2) (passes (l .3) (fails (l .4)))))))
+  bad-cut-given v =
+      (λ e. out (told lent (by (Refused (BadCut v)) .0 e)), λ l. by (Refused (BadCut v)) .1 (passes (l .0) (passes (l .1) (passes (l .2) (passes (l .3) (fails (l .4)))))))
     where
       out : Told lent (Refused (BadCut v))
           → Nowhere (GrammarBroken lent) × Nowhere (NoTokens lent) × Nowhere (TooMany lent) × Nowhere (WrongToken lent) × Least (WrongCut lent) v
@@ -309,7 +325,8 @@ module _ (words matrix tokens cuts : List ℕ) (room : ℕ) where
       back : Nowhere (GrammarBroken lent) → Nowhere (NoTokens lent) → Nowhere (TooMany lent) → Nowhere (WrongToken lent) → Nowhere (WrongCut lent)
           → room < needed lent → v ≡ needed lent → startAnswer words matrix tokens cuts room ≡ Refused (NoRoom v)
       back a b c d e h q =
-          by (Refused (NoRoom v)) .1 (passes a (passes b (passes c (passes d (passes e (fails (record { holds = no-room h q; least = λ u l n. let z = short n .1 in omega arith })))))))
+          let once : Least (NoRoomForRow lent) v = record { holds = no-room h q; least = λ u l n. let z = short n .1 in omega arith } in
+          by (Refused (NoRoom v)) .1 (passes a (passes b (passes c (passes d (passes e (fails once))))))
 
   -- start succeeds exactly when none of the conditions holds anywhere
   pub starts-exactly : (startAnswer words matrix tokens cuts room ≡ Done) ↔ Startable lent

@@ -1,11 +1,11 @@
--- The checks that start makes, as the code makes them: 15, then those of the tokens, then those of the cuts and the room; and what holds
--- where all pass.
+-- The checks that start makes, as the code makes them: 15, then those of the tokens, the cuts and the room, of which 9 and 10 are searches;
+-- and what holds where all pass.
 -- Document 01: "Start checks 15 .., 7, 8, 9, 10, 11"; the table's "first such place" and "63, else first bad cut's index".
 -- Rests on Start and StartKept, on laws' Least, and on language's Stages.
 --
--- Main definitions: tokensAnswer, cutsAnswer, Writable.
--- Main statements: the answer, check by check: no-token, many-tokens, bad-token, right-tokens, many-cuts, bad-cut, small-room, enough-room,
--- broken-grammar, refused-tokens, then-cuts; writable, right-cuts (what holds where nothing is refused).
+-- Main definitions: placeBelow, badTokens, badCuts, Writable.
+-- Main statements: stopped, passed (what a search has found); the answer, check by check: broken-grammar, no-token, many-tokens, bad-token,
+-- bad-cut, small-room, enough-room; writable, right-cuts (what holds where nothing is refused).
 use mathlib.Core.Path.{_≡_, refl, sym, ap, _∙_}
 use mathlib.Core.Bool.{Bool, true, false, _||_, false≢true}
 use mathlib.Core.List.{List, [], _∷_}
@@ -19,69 +19,49 @@ use lib.ListN.{length, getD, List·getD-eq-default}
 use Rattle.laws.specs.Least.{firstBelow, first-at, first-nowhere}
 pub use Rattle.laws.specs.Least.{Clear, clear-more}
 use Rattle.laws.specs.Tests.{lt-ltb, le-ltb, eq-eqb, ne-eqb}
-use Rattle.refusals.specs.declared.Refusal.{Refusal}
 use Rattle.refusals.specs.declared.Refusal.the-variants.{BadState, Empty, TooLong, BadToken, BadCut, NoRoom}
 use Rattle.refusals.specs.declared.Answer.{Answer}
 use Rattle.refusals.specs.declared.Answer.the-variants.{Done, Refused}
 use Rattle.language.specs.Words.{countT}
-use Rattle.language.specs.Stages.{refusedBy, checked, thenChecked, checked-append, failing}
+use Rattle.language.specs.Stages.{refusedBy, failing}
 use Rattle.language.specs.Checks.{checkSymbols}
 use Rattle.area.specs.Layout.{need}
 use Rattle.area.specs.Shape.{grammarInShape}
-use Rattle.area.specs.Start.{StartInput, emptyStage, lengthStage, tokenStage, cutStage, roomStage}
 use Rattle.area.specs.Start.{startAnswer, badTokenAt, cutFalls, badCutAt, no-room, Startable, starts-exactly}
 use Rattle.area.specs.StartKept.{GoodCuts, few-tokens, few-cuts, cut-within, cuts-good}
 
--- ---- 7, 8, 9
+-- ---- the searches of 9 and 10
 
-abbrev pub tokensAnswer : ℕ → List ℕ → Answer
-tokensAnswer t tokens =
-    refusedBy (λ v. Empty) (failing (eqb (length tokens) 0) 0)
-    (refusedBy (λ v. TooLong) (failing (ltb 16384 (length tokens)) 0)
-    (refusedBy BadToken (firstBelow (badTokenAt t tokens) (length tokens)) Done))
+-- what a search that has stopped at place i has found below n
+abbrev pub placeBelow : ℕ → ℕ → Option ℕ
+placeBelow i n = failing (ltb i n) i
 
-module _ (t : ℕ) (tokens : List ℕ) where
-  pub no-token : length tokens ≡ 0 → Refused Empty ≡ tokensAnswer t tokens
-  no-token h = rw (eq-eqb (length tokens) 0 h, tokensAnswer)
+pub place-there : {i n : ℕ} → i < n → placeBelow i n ≡ some i
+place-there {i} {n} h = rw (lt-ltb i n h)
 
-  module _ (some-token : length tokens ≡ 0 → ⊥) where
-    pub many-tokens : 16384 < length tokens → Refused TooLong ≡ tokensAnswer t tokens
-    many-tokens h = rw (ne-eqb (length tokens) 0 some-token, lt-ltb 16384 (length tokens) h, tokensAnswer)
+pub place-beyond : {i n : ℕ} → n ≤ i → placeBelow i n ≡ none
+place-beyond {i} {n} h = rw (le-ltb i n h)
 
-    module _ (few : length tokens ≤ 16384) (i : ℕ) (clear : Clear (badTokenAt t tokens) i) where
-      pub bad-token : i < length tokens → badTokenAt t tokens i ≡ true → Refused (BadToken i) ≡ tokensAnswer t tokens
-      bad-token h e =
-          rw (ne-eqb (length tokens) 0 some-token, le-ltb 16384 (length tokens) few, first-at (badTokenAt t tokens) (length tokens) i h clear e, tokensAnswer)
+-- 9: the first bad token
+abbrev pub badTokens : ℕ → List ℕ → Option ℕ
+badTokens t tokens = firstBelow (badTokenAt t tokens) (length tokens)
 
-      pub right-tokens : length tokens ≤ i → Done ≡ tokensAnswer t tokens
-      right-tokens h =
-          rw (ne-eqb (length tokens) 0 some-token, le-ltb 16384 (length tokens) few, first-nowhere (badTokenAt t tokens) (length tokens) i h clear, tokensAnswer)
-
-  -- where none is refused there are few
-  pub few-answered : Done ≡ tokensAnswer t tokens → length tokens ≤ 16384
-  few-answered e =
-      let many : 16384 < length tokens → ⊥ = λ h. (let q : Refused TooLong ≡ Done = many-tokens (λ z. omega arith) h ∙ sym e in let z : _≡_ {A = ℕ} 0 1 = cc in omega arith) in
-      omega arith
-
--- ---- 10, 11
-
--- .. of which there may be 63
+-- 10: the first bad cut, of which there may be 63
 abbrev pub badCuts : ℕ → List ℕ → Option ℕ
 badCuts n cuts = elim (ltb 63 (length cuts)) [ true ↦ some 63 | false ↦ firstBelow (badCutAt n cuts) (length cuts) ]
 
-abbrev pub cutsAnswer : ℕ → List ℕ → ℕ → Answer
-cutsAnswer n cuts room =
-    refusedBy BadCut (badCuts n cuts)
-    (refusedBy NoRoom (failing (ltb room (need n (length cuts + 1))) (need n (length cuts + 1))) Done)
+-- a search that goes up from 0 has stopped at a bad place, or passed all
+module _ (bad : ℕ → Bool) (n i : ℕ) (clear : Clear bad i) where
+  pub stopped : i < n → bad i ≡ true → firstBelow bad n ≡ placeBelow i n
+  stopped h e = first-at bad n i h clear e ∙ sym (place-there h)
 
-either : (a b : Bool) → elim a [ true ↦ true | false ↦ b ] ≡ (a || b)
-either true b = refl
-either false b = refl
+  pub passed : n ≤ i → firstBelow bad n ≡ placeBelow i n
+  passed h = first-nowhere bad n i h clear ∙ sym (place-beyond h)
 
 module _ (n : ℕ) (cuts : List ℕ) where
   -- a cut is bad by the two tests that the code joins
   pub cut-by : (i before : ℕ) → cutFalls cuts i ≡ ltb (getD cuts i 0) before → badCutAt n cuts i ≡ (ltb n (getD cuts i 0) || ltb (getD cuts i 0) before)
-  cut-by i before e = either (ltb n (getD cuts i 0)) (cutFalls cuts i) ∙ ap (λ b. ltb n (getD cuts i 0) || b) e
+  cut-by i before e = ap (λ b. ltb n (getD cuts i 0) || b) e
 
   -- the first cut has none before it, as if 0 stood there
   pub falls-first : cutFalls cuts 0 ≡ ltb (getD cuts 0 0) 0
@@ -90,24 +70,13 @@ module _ (n : ℕ) (cuts : List ℕ) where
   pub falls-next : (i : ℕ) → cutFalls cuts (i + 1) ≡ ltb (getD cuts (i + 1) 0) (getD cuts i 0)
   falls-next i = rw (add-one i)
 
-  module _ (room : ℕ) where
-    pub many-cuts : 63 < length cuts → Refused (BadCut 63) ≡ cutsAnswer n cuts room
-    many-cuts h = rw (lt-ltb 63 (length cuts) h, badCuts, cutsAnswer)
+  pub many-cuts : 63 < length cuts → badCuts n cuts ≡ placeBelow 63 (length cuts)
+  many-cuts h = rw (lt-ltb 63 (length cuts) h, badCuts, placeBelow)
 
-    module _ (few : length cuts ≤ 63) (i : ℕ) (clear : Clear (badCutAt n cuts) i) where
-      pub bad-cut : i < length cuts → badCutAt n cuts i ≡ true → Refused (BadCut i) ≡ cutsAnswer n cuts room
-      bad-cut h e = rw (le-ltb 63 (length cuts) few, first-at (badCutAt n cuts) (length cuts) i h clear e, badCuts, cutsAnswer)
+  pub few-cuts-by : length cuts ≤ 63 → {found : Option ℕ} → firstBelow (badCutAt n cuts) (length cuts) ≡ found → badCuts n cuts ≡ found
+  few-cuts-by h e = rw (le-ltb 63 (length cuts) h, badCuts) e
 
-      module _ (end : length cuts ≤ i) where
-        pub small-room : room < need n (length cuts + 1) → Refused (NoRoom (need n (length cuts + 1))) ≡ cutsAnswer n cuts room
-        small-room h =
-            rw (le-ltb 63 (length cuts) few, first-nowhere (badCutAt n cuts) (length cuts) i end clear, lt-ltb room (need n (length cuts + 1)) h, badCuts, cutsAnswer)
-
-        pub enough-room : need n (length cuts + 1) ≤ room → Done ≡ cutsAnswer n cuts room
-        enough-room h =
-            rw (le-ltb 63 (length cuts) few, first-nowhere (badCutAt n cuts) (length cuts) i end clear, le-ltb room (need n (length cuts + 1)) h, badCuts, cutsAnswer)
-
--- ---- 15, then the checks of the tokens, then those of the cuts
+-- ---- 15, then 7 to 11
 
 -- a grammar in shape has a first word
 pub some-word : (words matrix : List ℕ) → grammarInShape words matrix ≡ true → 0 < length words
@@ -115,31 +84,71 @@ unfolding grammarInShape checkSymbols
 some-word [] matrix e = absurd (false≢true e)
 some-word (w ∷ words) matrix e = omega arith
 
+-- the answer, check by check
 module _ (words matrix tokens cuts : List ℕ) (room : ℕ) where
-  abbrev lent : StartInput
-  lent = record { words = words; matrix = matrix; tokens = tokens; cuts = cuts; room = room }
+  abbrev n : ℕ
+  n = length tokens
 
-  -- 15 by the test of the grammar and the matrix, then the others
-  abbrev byShape : Bool → Answer
-  byShape right =
+  abbrev wanted : ℕ
+  wanted = need n (length cuts + 1)
+
+  -- .. by what each test and each search says
+  abbrev answered : Bool → Bool → Bool → Option ℕ → Option ℕ → Bool → Answer
+  answered right empty long token cut short =
       refusedBy (λ v. BadState) (elim right [ true ↦ none | false ↦ some 0 ])
-      (checked (emptyStage ∷ lengthStage ∷ tokenStage ∷ cutStage ∷ roomStage ∷ []) lent)
+      (refusedBy (λ v. Empty) (failing empty 0)
+      (refusedBy (λ v. TooLong) (failing long 0)
+      (refusedBy BadToken token
+      (refusedBy BadCut cut
+      (refusedBy NoRoom (failing short wanted) Done)))))
+
+  abbrev byShape : Bool → Answer
+  byShape right = answered right (eqb n 0) (ltb 16384 n) (badTokens (countT words) tokens) (badCuts n cuts) (ltb room wanted)
+
+  by-shape : (right : Bool) → grammarInShape words matrix ≡ right → byShape right ≡ startAnswer words matrix tokens cuts room
+  unfolding startAnswer
+  by-shape right e = ap byShape (sym e)
 
   pub broken-grammar : grammarInShape words matrix ≡ false → Refused BadState ≡ startAnswer words matrix tokens cuts room
-  unfolding startAnswer
-  broken-grammar e = ap byShape (sym e)
+  broken-grammar e = by-shape false e
 
   module _ (right : grammarInShape words matrix ≡ true) where
-    by-tokens : startAnswer words matrix tokens cuts room ≡ thenChecked (tokensAnswer (countT words) tokens) (cutStage ∷ roomStage ∷ []) lent
-    unfolding startAnswer
-    by-tokens = ap byShape right ∙ (checked-append (emptyStage ∷ lengthStage ∷ tokenStage ∷ []) (cutStage ∷ roomStage ∷ []) lent)
+    abbrev byCount : Bool → Bool → Answer
+    byCount empty long = answered true empty long (badTokens (countT words) tokens) (badCuts n cuts) (ltb room wanted)
 
-    module _ {answer : Answer} (e : answer ≡ tokensAnswer (countT words) tokens) where
-      pub refused-tokens : {refusal : Refusal} → answer ≡ Refused refusal → answer ≡ startAnswer words matrix tokens cuts room
-      refused-tokens q = q ∙ sym (by-tokens ∙ ap (λ a. thenChecked a (cutStage ∷ roomStage ∷ []) lent) (sym e ∙ q))
+    pub no-token : n ≡ 0 → Refused Empty ≡ startAnswer words matrix tokens cuts room
+    no-token h = ap (λ b. byCount b (ltb 16384 n)) (sym (eq-eqb n 0 h)) ∙ by-shape true right
 
-      pub then-cuts : answer ≡ Done → cutsAnswer (length tokens) cuts room ≡ startAnswer words matrix tokens cuts room
-      then-cuts q = sym (by-tokens ∙ ap (λ a. thenChecked a (cutStage ∷ roomStage ∷ []) lent) (sym e ∙ q))
+    module _ (some-token : n ≡ 0 → ⊥) where
+      by-length : (long : Bool) → ltb 16384 n ≡ long → byCount false long ≡ startAnswer words matrix tokens cuts room
+      by-length long e = ap (byCount false) (sym e) ∙ (ap (λ b. byCount b (ltb 16384 n)) (sym (ne-eqb n 0 some-token)) ∙ by-shape true right)
+
+      pub many-tokens : 16384 < n → Refused TooLong ≡ startAnswer words matrix tokens cuts room
+      many-tokens h = by-length true (lt-ltb 16384 n h)
+
+      module _ (few : n ≤ 16384) (i : ℕ) (tokens-by : badTokens (countT words) tokens ≡ placeBelow i n) where
+        by-token : (token : Option ℕ) → placeBelow i n ≡ token → answered true false false token (badCuts n cuts) (ltb room wanted) ≡ startAnswer words matrix tokens cuts room
+        by-token token e = ap (λ t. answered true false false t (badCuts n cuts) (ltb room wanted)) (sym (tokens-by ∙ e)) ∙ by-length false (le-ltb 16384 n few)
+
+        pub bad-token : i < n → Refused (BadToken i) ≡ startAnswer words matrix tokens cuts room
+        bad-token h = by-token (some i) (place-there h)
+
+        module _ (right-tokens : n ≤ i) (j : ℕ) (cuts-by : badCuts n cuts ≡ placeBelow j (length cuts)) where
+          by-cut : (cut : Option ℕ) → placeBelow j (length cuts) ≡ cut → answered true false false none cut (ltb room wanted) ≡ startAnswer words matrix tokens cuts room
+          by-cut cut e = ap (λ c. answered true false false none c (ltb room wanted)) (sym (cuts-by ∙ e)) ∙ by-token none (place-beyond right-tokens)
+
+          pub bad-cut : j < length cuts → Refused (BadCut j) ≡ startAnswer words matrix tokens cuts room
+          bad-cut h = by-cut (some j) (place-there h)
+
+          module _ (right-cuts : length cuts ≤ j) where
+            by-room : (short : Bool) → ltb room wanted ≡ short → answered true false false none none short ≡ startAnswer words matrix tokens cuts room
+            by-room short e = ap (answered true false false none none) (sym e) ∙ by-cut none (place-beyond right-cuts)
+
+            pub small-room : room < wanted → Refused (NoRoom wanted) ≡ startAnswer words matrix tokens cuts room
+            small-room h = by-room true (lt-ltb room wanted h)
+
+            pub enough-room : wanted ≤ room → Done ≡ startAnswer words matrix tokens cuts room
+            enough-room h = by-room false (le-ltb room wanted h)
 
 -- ---- what holds where nothing is refused
 

@@ -8,11 +8,11 @@ ghost use Prim.Native.Nat.{_+_, _*_, _-_, _≤_, _<_, _^_, pred};
 ghost use lib.ListN.{length, getD, drop};
 ghost use Rattle.laws.specs.Picks.{pick};
 ghost use Rattle.area.specs.Layout.{slotsAt};
-ghost use Rattle.area.specs.Shape.{ruleC, symbolFits, placeFits, tag, broken, opened, inner, scanSlot, side};
-ghost use Rattle.area.specs.Shape.{statusFits, boundsFit, sidesFit, fallen, counted, liveLine, lineOf, walkOf};
+ghost use Rattle.area.specs.Shape.{ruleC, symbolFits, placeFits, tag, opened, inner, scanSlot, side};
+ghost use Rattle.area.specs.Shape.{statusFits, boundsFit, sidesFit, counted, lineOf, walkOf};
 ghost use Rattle.area.specs.Shape.{endFits, potentialOf, ruleJ, blank, ruleK, walkFits};
 ghost use Rattle.area.specs.Shape.{byteFits, grammarInShape};
-ghost use Rattle.area.specs.ShapeCode.{rowFits, Sized, Few, Within, Countable};
+ghost use Rattle.area.specs.ShapeCode.{Sized, Few, Within, Countable};
 
 // Where a scan of one side of a chunk stands: within a symbol of `size` slots, `within` of them to come; how many symbols,
 // terminals other than # and marks it has passed.
@@ -36,6 +36,37 @@ pub struct Walk {
     pub symbols: u16,
     pub terminals: u16,
 }
+
+// A scan that has passed nothing yet.
+const FRESH: Scan = Scan {
+    ok: true,
+    within: 0,
+    size: 0,
+    symbols: 0,
+    terminals: 0,
+    marks: 0,
+};
+
+// A scan that has met a wrong word.
+const BROKEN: Scan = Scan {
+    ok: false,
+    within: 0,
+    size: 0,
+    symbols: 0,
+    terminals: 0,
+    marks: 0,
+};
+
+// A walk that has met a wrong row.
+const FALLEN: Walk = Walk {
+    ok: false,
+    at: 0,
+    live: 0,
+    running: 0,
+    unread: 0,
+    symbols: 0,
+    terminals: 0,
+};
 
 // The word at place i.
 pub fn word(words: &[u16], i: usize) -> u16
@@ -82,24 +113,8 @@ fn byte_fits(t: u16, a: u16, b: u16, x: u8) -> bool
     x <= 3
 }
 
-// The bytes of a over every b.
-fn row_fits(matrix: &[u8], t: u16, a: u16) -> bool
-    requires { ⌜ (a < 64) × (4096 ≤ length (now matrix)) ⌝ }
-    ensures { λ r. ⌜ r ≡ rowFits t (now (matrix .entry)) a ⌝ }
-{
-    let mut at = 64 * wide(a);
-    let mut b = 0;
-    while b < 64 {
-        if !byte_fits(t, a, b, matrix[at]) {
-            return false;
-        }
-        at += 1;
-        b += 1;
-    }
-    true
-}
-
-// The grammar words and the matrix keep the shape rules: (a) the words pass 1 to 3, (b) the matrix has its bytes, and each row of them fits.
+// The grammar words and the matrix keep the shape rules: (a) the words pass 1 to 3, (b) the matrix has its bytes, a over b at 64a + b, and
+// each of them fits.
 pub fn grammar_in_shape(words: &[u16], matrix: &[u8]) -> bool
     ensures { λ r. ⌜ r ≡ grammarInShape (now (words .entry)) (now (matrix .entry)) ⌝ }
 {
@@ -109,11 +124,17 @@ pub fn grammar_in_shape(words: &[u16], matrix: &[u8]) -> bool
     if matrix.len() < 4096 {
         return false;
     }
-    let t = words[0];
+    let t = word(words, 0);
+    let mut at = 0;
     let mut a = 0;
     while a < 64 {
-        if !row_fits(matrix, t, a) {
-            return false;
+        let mut b = 0;
+        while b < 64 {
+            if !byte_fits(t, a, b, matrix[at]) {
+                return false;
+            }
+            at += 1;
+            b += 1;
         }
         a += 1;
     }
@@ -174,20 +195,6 @@ fn tag_of(k: u16, l: u16) -> u16
     if k <= 1 { l } else { 0 }
 }
 
-// A scan that has met a wrong word.
-fn break_off() -> Scan
-    ensures { λ r. ⌜ r ≡ broken ⌝ }
-{
-    Scan {
-        ok: false,
-        within: 0,
-        size: 0,
-        symbols: 0,
-        terminals: 0,
-        marks: 0,
-    }
-}
-
 // A slot at which a symbol starts: symbol s, mark m, l slots, last word b.
 fn open_symbol(
     t: u16,
@@ -208,7 +215,7 @@ fn open_symbol(
         & place_fits(tokens, slot, s, l)
         & (b == tag_of(l, l));
     if !fits {
-        return break_off();
+        return BROKEN;
     }
     let terminal = (s != 0) & (s < 256);
     Scan {
@@ -228,7 +235,7 @@ fn inside(st: Scan, s: u16, m: u16, l: u16, b: u16) -> Scan
 {
     let fits = (s == 0) & (m == 0) & (l == 0) & (b == tag_of(st.within, st.size));
     if !fits {
-        return break_off();
+        return BROKEN;
     }
     Scan {
         ok: true,
@@ -261,7 +268,7 @@ fn scan_slot(
         }
         return inside(st, s, m, l, b);
     }
-    break_off()
+    BROKEN
 }
 
 // One side of a chunk: the slots from `from` up to `to`.
@@ -270,14 +277,7 @@ fn side(area: &[u16], t: u16, n: u16, from: u16, to: u16) -> Scan
     ensures { λ r. ⌜ r ≡ side t n (now (area .entry)) from to ⌝ }
 {
     let tokens = word(area, 0);
-    let mut st = Scan {
-        ok: true,
-        within: 0,
-        size: 0,
-        symbols: 0,
-        terminals: 0,
-        marks: 0,
-    };
+    let mut st = FRESH;
     let mut at = slot_at(area, wide(from));
     let mut slot = from;
     while slot < to {
@@ -322,21 +322,6 @@ fn sides_fit(stack: Scan, unread: Scan, x: u16, h: u16, e: u16, y: u16) -> bool
         & ((x == 1) | ((h < e) & ((x != 18) | (1 <= y))))
 }
 
-// A walk that has met a wrong row.
-fn fall() -> Walk
-    ensures { λ r. ⌜ r ≡ fallen ⌝ }
-{
-    Walk {
-        ok: false,
-        at: 0,
-        live: 0,
-        running: 0,
-        unread: 0,
-        symbols: 0,
-        terminals: 0,
-    }
-}
-
 // A live chunk's counts added.
 fn count_in(w: Walk, stack: Scan, unread: Scan, x: u16, e: u16) -> Walk
     requires { ⌜ Countable 63 e w stack unread ⌝ }
@@ -354,34 +339,24 @@ fn count_in(w: Walk, stack: Scan, unread: Scan, x: u16, e: u16) -> Walk
     }
 }
 
-// A live chunk's row: status x, from f, head h, end e, marks y.
-fn live_line(area: &[u16], t: u16, n: u16, w: Walk, x: u16, f: u16, h: u16, e: u16, y: u16) -> Walk
-    requires { ⌜ (n ≤ 64) × Sized (now area) × Within 63 w ⌝ }
-    ensures { λ r. ⌜ r ≡ liveLine t n (now (area .entry)) w x f h e y ⌝ }
-{
-    if !bounds_fit(word(area, 0), w.at, x, f, h, e) {
-        return fall();
-    }
-    let stack = side(area, t, n, f, h);
-    let unread = side(area, t, n, h, e);
-    if !sides_fit(stack, unread, x, h, e, y) {
-        return fall();
-    }
-    count_in(w, stack, unread, x, e)
-}
-
-// One row of the table more. (d) A gone chunk's row is zeros.
+// One row of the table more: status x, from f, head h, end e, marks y. (d) A gone chunk's row is zeros.
 fn line(area: &[u16], t: u16, n: u16, w: Walk, x: u16, f: u16, h: u16, e: u16, y: u16) -> Walk
     requires { ⌜ (n ≤ 64) × Sized (now area) × Within 63 w ⌝ }
     ensures { λ r. ⌜ r ≡ lineOf t n (now (area .entry)) w x f h e y ⌝ }
 {
-    if w.ok & (x != 0) {
-        return live_line(area, t, n, w, x, f, h, e, y);
-    }
-    if w.ok & ((f == 0) & (h == 0) & (e == 0) & (y == 0)) {
+    if w.ok & (x == 0) & ((f == 0) & (h == 0) & (e == 0) & (y == 0)) {
         return w;
     }
-    fall()
+    let fits = w.ok & bounds_fit(word(area, 0), w.at, x, f, h, e);
+    if !fits {
+        return FALLEN;
+    }
+    let stack = side(area, t, n, f, h);
+    let unread = side(area, t, n, h, e);
+    if !sides_fit(stack, unread, x, h, e, y) {
+        return FALLEN;
+    }
+    count_in(w, stack, unread, x, e)
 }
 
 // (d) to (h) of every chunk.

@@ -14,7 +14,8 @@ use Rattle.area.proofs.in_shape.Statement.{statement}
 use Rattle.area.proofs.in_shape.Tie as tie
 
 -- past the tests of grammar, matrix and sizes
-readable : (c : tie.Else1) → let a = c .before .before .before .before .before .before .args in (grammarInShape (a .words .now) (a .matrix .now) ≡ true) × (ruleC (a .area .now) ≡ true)
+readable : (c : tie.Else1)
+    → let a = c .before .before .before .before .before .before .args in (grammarInShape (a .words .now) (a .matrix .now) ≡ true) × (ruleC (a .area .now) ≡ true)
 readable c = kept-both _ _ (rw (c .before .before .grammar-in-shape .ensures, c .before .sized .ensures) at (c .if1 .left))
 
 head : (c : tie.Else1) → let words = c .before .before .before .before .before .before .args .words .now in (4 ≤ length words) × (countT words ≤ 63) × (countN words ≤ 64)
@@ -36,14 +37,14 @@ returns c =
     let a = c .before .before .before .before .before .before .args in
     shape-left (a .words .now) (a .matrix .now) (a .area .now) (rw (c .before .before .grammar-in-shape .ensures, c .before .sized .ensures) at (c .if1 .taken))
 
-shared-slice-read-walk-table : tie.Need-shared-slice-read-walk-table
-shared-slice-read-walk-table c = omega (arith, head (c .before))
+word-requires : tie.Need-word-requires
+word-requires c κs = omega (arith, head c)
 
-shared-slice-read-walk-table-2 : tie.Need-shared-slice-read-walk-table-2
-shared-slice-read-walk-table-2 c = omega (arith, head (c .before .before))
+word-requires-2 : tie.Need-word-requires-2
+word-requires-2 c κs = omega (arith, head (c .before))
 
 walk-table-requires : tie.Need-walk-table-requires
-walk-table-requires c κs = (head (c .before .before) .2, sized (c .before .before))
+walk-table-requires c κs = (rw (c .word2 .ensures) (head (c .before .before) .2), sized (c .before .before))
 
 walk-fits-requires : tie.Need-walk-fits-requires
 walk-fits-requires c κs = sized (c .before .before .before)
@@ -52,7 +53,7 @@ returns-2 : tie.Need-returns-2
 returns-2 c =
     let a = c .before .before .before .before .before .before .before .before .before .before .args in
     c .walk-fits .ensures
-    ∙ ap (walkFits (a .area .now)) (c .before .walk-table .ensures)
+    ∙ ap (walkFits (a .area .now)) (rw (c .before .before .before .word .ensures, c .before .before .word2 .ensures) at (c .before .walk-table .ensures))
     ∙ shape-kept (a .words .now) (a .matrix .now) (a .area .now) (readable (c .before .before .before .before) .0) (readable (c .before .before .before .before) .1)
 
 pub in-shape-spec : {M : Type 1} → statement M
@@ -62,8 +63,8 @@ in-shape-spec =
     grammar-in-shape-requires
     sized-requires
     returns
-    shared-slice-read-walk-table
-    shared-slice-read-walk-table-2
+    word-requires
+    word-requires-2
     walk-table-requires
     walk-fits-requires
     returns-2)

@@ -11,7 +11,8 @@ use Rattle.area.proofs.begin.write_table.Statement.{statement}
 use Rattle.area.proofs.begin.write_table.Tie as tie
 
 abbrev Inv-loop : tie.InvT-loop
-Inv-loop area₀ cuts n from₀ head₀ at₀ i₀ area from head at i = (i ≤ length cuts) × (at ≡ 5 + 5 * i) × (length area ≡ length area₀) × (sets area at (startRows n from head (drop i cuts)) ≡ sets area₀ 5 (startRows n 0 1 cuts))
+Inv-loop area₀ cuts n from₀ head₀ at₀ i₀ area from head at i =
+    (i ≤ length cuts) × (at ≡ 5 + 5 * i) × (length area ≡ length area₀) × (sets area at (startRows n from head (drop i cuts)) ≡ sets area₀ 5 (startRows n 0 1 cuts))
 
 abbrev μ-loop : tie.MeasureT-loop
 μ-loop area₀ cuts n from₀ head₀ at₀ i₀ area from head at i = length cuts - i
@@ -47,7 +48,8 @@ loop-again c =
       omega arith,
       omega arith,
       c .before .before .write-row .kept .0 ∙ l .inv .2,
-      rw (c .before .before .write-row .ensures) (sym (rows-more (l .area) (a .cuts .now) (a .n) (l .from) (l .head) (l .at) (l .i) (c .before .before .before .before .before .loop-test .taken)) ∙ l .inv .3),
+      rw (c .before .before .write-row .ensures)
+          (sym (rows-more (l .area) (a .cuts .now) (a .n) (l .from) (l .head) (l .at) (l .i) (c .before .before .before .before .before .loop-test .taken)) ∙ l .inv .3),
     )
 
 add-write-row : tie.Need-add-write-row Inv-loop μ-loop
@@ -63,7 +65,8 @@ returns : tie.Need-returns Inv-loop μ-loop
 returns c =
     let a = c .before .before .before .before .before .before .before .before .args in
     let l = c .before .before .before .before .before .loop in
-    c .before .before .write-row2 .ensures ∙ sym (rows-last (l .area) (a .cuts .now) (a .n) (l .from) (l .head) (l .at) (l .i) (c .before .before .before .before .loop-test .left)) ∙ l .inv .3
+    c .before .before .write-row2 .ensures
+    ∙ sym (rows-last (l .area) (a .cuts .now) (a .n) (l .from) (l .head) (l .at) (l .i) (c .before .before .before .before .loop-test .left)) ∙ l .inv .3
 
 pub write-table-spec : {M : Type 1} → statement M
 write-table-spec =

@@ -20,7 +20,9 @@ word-requires-2 : tie.Need-word-requires-2
 word-requires-2 c κs = front-word (c .before .before .before .before .before .pre) (lit< tt)
 
 returns : tie.Need-returns
-returns c = end-tests (c .before .before .before .before .before .before .args .area .now) (c .before .before .before .before .before .before .args .w) (c .before .before .before .before .word .ensures) (c .word2 .ensures)
+returns c =
+    end-tests (c .before .before .before .before .before .before .args .area .now) (c .before .before .before .before .before .before .args .w)
+    (c .before .before .before .before .word .ensures) (c .word2 .ensures)
 
 pub end-fits-spec : {M : Type 1} → statement M
 end-fits-spec = tie.close (tie.spec word-requires add-last add-result word-requires-2 returns)

@@ -1,5 +1,5 @@
 -- `shape::open_symbol` meets its contract: the tests of `opened`, joined; a symbol that fits has a mark of at most 1, so that the sums fit.
-use mathlib.Core.Path.{_≡_, _∙_}
+use mathlib.Core.Path.{_≡_}
 use mathlib.Core.Bool.{not, _&&_}
 use native.Mathlib.Omega.{arith}
 use lib.Dec.{ltb, eqb}
@@ -19,19 +19,17 @@ place-fits-requires c κs = search needs
 tag-of-requires : tie.Need-tag-of-requires
 tag-of-requires c κs = tt
 
-break-off-requires : tie.Need-break-off-requires
-break-off-requires c κs = tt
-
 returns : tie.Need-returns
 returns c =
-    let a = c .before .before .before .before .before .args in
-    c .break-off .ensures
-    ∙ opened-left (a .t) (a .n) (a .tokens) (a .slot) (a .st) (a .s) (a .m) (a .l) (a .b) (c .before .before .before .before .symbol-fits .ensures) (c .before .before .before .place-fits .ensures) (c .before .before .tag-of .ensures) (c .before .if1 .taken)
+    let a = c .before .before .before .before .args in
+    opened-left (a .t) (a .n) (a .tokens) (a .slot) (a .st) (a .s) (a .m) (a .l) (a .b) (c .before .before .before .symbol-fits .ensures) (c .before .before .place-fits .ensures)
+    (c .before .tag-of .ensures) (c .if1 .taken)
 
 sub-t17 : tie.Need-sub-t17
 sub-t17 c =
     let a = c .before .before .before .before .args in
-    let some : a .l ≡ 0 → ⊥ = opened-some (a .t) (a .n) (a .tokens) (a .slot) (a .st) (a .s) (a .m) (a .l) (a .b) (c .before .before .before .symbol-fits .ensures) (c .before .before .place-fits .ensures) (c .before .tag-of .ensures) (c .if1 .left) in
+    let some : a .l ≡ 0 → ⊥ = opened-some (a .t) (a .n) (a .tokens) (a .slot) (a .st) (a .s) (a .m) (a .l) (a .b) (c .before .before .before .symbol-fits .ensures)
+    (c .before .before .place-fits .ensures) (c .before .tag-of .ensures) (c .if1 .left) in
     omega arith
 
 add-t19 : tie.Need-add-t19
@@ -46,12 +44,18 @@ add-t21 c = let s = c .before .before .before .before .before .before .args .s i
 add-t22 : tie.Need-add-t22
 add-t22 c =
     let a = c .before .before .before .before .before .before .before .args in
-    omega (arith, mark-small (a .t) (a .n) (a .s) (a .m) (opened-symbol (a .t) (a .n) (a .tokens) (a .slot) (a .st) (a .s) (a .m) (a .l) (a .b) (c .before .before .before .before .before .before .symbol-fits .ensures) (c .before .before .before .before .before .place-fits .ensures) (c .before .before .before .before .tag-of .ensures) (c .before .before .before .if1 .left)))
+    omega (
+      arith,
+      mark-small (a .t) (a .n) (a .s) (a .m) (opened-symbol (a .t) (a .n) (a .tokens) (a .slot) (a .st) (a .s) (a .m) (a .l) (a .b)
+          (c .before .before .before .before .before .before .symbol-fits .ensures) (c .before .before .before .before .before .place-fits .ensures)
+          (c .before .before .before .before .tag-of .ensures) (c .before .before .before .if1 .left)),
+    )
 
 returns-2 : tie.Need-returns-2
 returns-2 c =
     let a = c .before .before .before .before .before .before .before .args in
-    opened-kept (a .t) (a .n) (a .tokens) (a .slot) (a .st) (a .s) (a .m) (a .l) (a .b) (c .before .before .before .before .before .before .symbol-fits .ensures) (c .before .before .before .before .before .place-fits .ensures) (c .before .before .before .before .tag-of .ensures) (c .before .before .before .if1 .left)
+    opened-kept (a .t) (a .n) (a .tokens) (a .slot) (a .st) (a .s) (a .m) (a .l) (a .b) (c .before .before .before .before .before .before .symbol-fits .ensures)
+    (c .before .before .before .before .before .place-fits .ensures) (c .before .before .before .before .tag-of .ensures) (c .before .before .before .if1 .left)
 
 pub open-symbol-spec : {M : Type 1} → statement M
 open-symbol-spec =
@@ -60,7 +64,6 @@ open-symbol-spec =
     symbol-fits-requires
     place-fits-requires
     tag-of-requires
-    break-off-requires
     returns
     sub-t17
     add-t19

@@ -40,7 +40,14 @@ add-result-4 c = search needs
 
 returns : tie.Need-returns
 returns c = (
-  simp (c .before .before .times .ensures .0, c .before .before .before .before .before .one-less .ensures .0, c .before .before .before .one-less2 .ensures .0, c .before .before .before .before .wide .ensures .0, c .before .wide2 .ensures .0, c .wide3 .ensures .0),
+  simp (
+    c .before .before .times .ensures .0,
+    c .before .before .before .before .before .one-less .ensures .0,
+    c .before .before .before .one-less2 .ensures .0,
+    c .before .before .before .before .wide .ensures .0,
+    c .before .wide2 .ensures .0,
+    c .wide3 .ensures .0,
+  ),
   omega arith,
 )
 

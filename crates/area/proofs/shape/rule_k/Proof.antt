@@ -59,7 +59,8 @@ returns c =
     let at = c .before .before .before .slot-at2 .ensures in
     let made = c .before .wide-word2 .ensures .0 in
     let e : madeAtWord xs + 3 * n - (madeAtWord xs + 3 * m) ≡ 3 * (n - m) = omega arith in
-    k-tests xs (a .w) (simp (at, slots, tokens, c .before .before .before .before .wide .ensures .0) at (c .before .before .blank .ensures)) (rw e at (simp (slots, tokens, made) at (c .blank2 .ensures)))
+    k-tests xs (a .w) (simp (at, slots, tokens, c .before .before .before .before .wide .ensures .0) at (c .before .before .blank .ensures))
+    (rw e at (simp (slots, tokens, made) at (c .blank2 .ensures)))
 
 pub rule-k-spec : {M : Type 1} → statement M
 rule-k-spec =

@@ -19,14 +19,11 @@ returns-2 : tie.Need-returns-2
 unfolding scanSlot
 returns-2 c = simp (c .before .before .before .if1 .taken, ne-eqb _ _ (c .before .if2 .left)) (c .inside .ensures)
 
-break-off-requires : tie.Need-break-off-requires
-break-off-requires c κs = tt
-
 returns-3 : tie.Need-returns-3
 unfolding scanSlot
-returns-3 c = simp (c .before .if1 .left) (c .break-off .ensures)
+returns-3 c = simp (c .if1 .left)
 
 pub scan-slot-spec : {M : Type 1} → statement M
 scan-slot-spec =
     tie.close
-    (tie.spec open-symbol-requires returns inside-requires returns-2 break-off-requires returns-3)
+    (tie.spec open-symbol-requires returns inside-requires returns-2 returns-3)

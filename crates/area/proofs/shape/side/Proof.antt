@@ -69,13 +69,21 @@ scan-slot-requires c κs =
     let pre = c .before .before .before .before .before .before .before .before .before .before .pre in
     let l = c .before .before .before .before .before .loop in
     let h = c .before .before .before .before .loop-test .taken in
-    rw (c .before .before .before .before .before .before .before .before .word .ensures) (pre .0, pre .1 .few-tokens, few-here (pre .1) h (pre .2) (c .before .before .before .before .before .before .before .before .before .before .args .from) (l .st) (l .inv .2), slot-low (pre .1) h (pre .2))
+    rw (c .before .before .before .before .before .before .before .before .word .ensures) (
+      pre .0,
+      pre .1 .few-tokens,
+      few-here (pre .1) h (pre .2)
+          (c .before .before .before .before .before .before .before .before .before .before .args .from) (l .st) (l .inv .2),
+      slot-low (pre .1) h (pre .2),
+    )
 
 add-at : tie.Need-add-at Inv-loop μ-loop
 add-at c = ahead-fits (room (c .before .before .before .before .before)) (c .before .before .before .before .before .before .before .before .before .before .before .good .0 .0)
 
 add-slot : tie.Need-add-slot Inv-loop μ-loop
-add-slot c = slot-fits (c .before .before .before .before .before .before .before .before .before .before .before .pre .1) (c .before .before .before .before .before .loop-test .taken) (c .before .before .before .before .before .before .before .before .before .before .before .pre .2)
+add-slot c =
+    slot-fits (c .before .before .before .before .before .before .before .before .before .before .before .pre .1) (c .before .before .before .before .before .loop-test .taken)
+    (c .before .before .before .before .before .before .before .before .before .before .before .pre .2)
 
 loop-less : tie.Need-loop-less Inv-loop μ-loop
 loop-less c = fewer (c .before .before .before .before .before .loop-test .taken)
@@ -87,9 +95,18 @@ loop-again c =
       further (l .inv .0),
       next-slot (slotsAt (a .area .now)) (l .slot) (l .inv .1),
       rw (passed-more (l .inv .0), c .scan-slot .ensures)
-          (slot-few (a .t) (a .n) (c .before .before .before .before .before .before .before .before .before .word .result) (l .slot) (l .st) (c .before .before .before .before .word2 .result) (c .before .before .before .word3 .result) (c .before .before .word4 .result) (c .before .word5 .result) (l .slot - a .from) (l .inv .2)),
-      rw (c .scan-slot .ensures, c .before .before .before .before .word2 .ensures, c .before .before .before .word3 .ensures, c .before .before .word4 .ensures, c .before .word5 .ensures)
-          (sym (scan-more (a .t) (a .n) (c .before .before .before .before .before .before .before .before .before .word .result) (a .to - (l .slot + 1)) (l .slot) (l .at) (a .area .now) (l .st)) ∙ (rw (one-of (c .before .before .before .before .before .loop-test .taken)) at (l .inv .3))),
+          (slot-few (a .t) (a .n) (c .before .before .before .before .before .before .before .before .before .word .result) (l .slot) (l .st)
+          (c .before .before .before .before .word2 .result) (c .before .before .before .word3 .result) (c .before .before .word4 .result) (c .before .word5 .result)
+          (l .slot - a .from) (l .inv .2)),
+      rw (
+        c .scan-slot .ensures,
+        c .before .before .before .before .word2 .ensures,
+        c .before .before .before .word3 .ensures,
+        c .before .before .word4 .ensures,
+        c .before .word5 .ensures,
+      )
+          (sym (scan-more (a .t) (a .n) (c .before .before .before .before .before .before .before .before .before .word .result) (a .to - (l .slot + 1)) (l .slot) (l .at)
+          (a .area .now) (l .st)) ∙ (rw (one-of (c .before .before .before .before .before .loop-test .taken)) at (l .inv .3))),
     )
 
 returns : tie.Need-returns Inv-loop μ-loop

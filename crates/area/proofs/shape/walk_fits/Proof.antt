@@ -36,8 +36,12 @@ rule-k-requires c κs = c .before .before .before .before .before .before .befor
 
 returns : tie.Need-returns
 returns c =
-    walk-tests (c .before .before .before .before .before .before .before .before .before .before .args .area .now) (c .before .before .before .before .before .before .before .before .before .before .args .w) (c .before .before .before .before .before .before .before .before .word .ensures) (c .before .before .before .before .before .before .before .word2 .ensures) (c .before .before .before .before .before .end-fits .ensures)
-    (c .before .before .before .before .wide-word .ensures .0) (c .before .before .before .wide .ensures .0) (c .before .before .wide-word2 .ensures .0) (c .before .rule-j .ensures) (c .rule-k .ensures)
+    walk-tests (c .before .before .before .before .before .before .before .before .before .before .args .area .now)
+    (c .before .before .before .before .before .before .before .before .before .before .args .w)
+    (c .before .before .before .before .before .before .before .before .word .ensures) (c .before .before .before .before .before .before .before .word2 .ensures)
+    (c .before .before .before .before .before .end-fits .ensures)
+    (c .before .before .before .before .wide-word .ensures .0) (c .before .before .before .wide .ensures .0) (c .before .before .wide-word2 .ensures .0)
+    (c .before .rule-j .ensures) (c .rule-k .ensures)
 
 pub walk-fits-spec : {M : Type 1} → statement M
 walk-fits-spec =

@@ -60,14 +60,21 @@ word-requires-5 c κs = word-4 (room (c .before .before .before .before))
 
 line-requires : tie.Need-line-requires Inv-loop μ-loop
 line-requires c κs =
-    let pre = c .before .before .before .before .before .before .before .before .before .pre in
-    (pre .0, pre .1, within-here (pre .1) (c .before .before .before .before .before .loop-test .taken) (c .before .before .before .before .before .before .before .wide-word .ensures .0) (c .before .before .before .before .before .before .loop .w) (c .before .before .before .before .before .before .loop .inv .1))
+    let pre = c .before .before .before .before .before .before .before .before .before .pre in (
+      pre .0,
+      pre .1,
+      within-here (pre .1) (c .before .before .before .before .before .loop-test .taken)
+          (c .before .before .before .before .before .before .before .wide-word .ensures .0) (c .before .before .before .before .before .before .loop .w)
+          (c .before .before .before .before .before .before .loop .inv .1),
+    )
 
 add-at : tie.Need-add-at Inv-loop μ-loop
 add-at c = ahead-fits (room (c .before .before .before .before .before .before)) (c .before .before .before .before .before .before .before .before .before .before .good .0 .0)
 
 add-i : tie.Need-add-i Inv-loop μ-loop
-add-i c = row-fits (c .before .before .before .before .before .before .before .before .before .before .pre .1) (c .before .before .before .before .before .before .loop-test .taken) (c .before .before .before .before .before .before .before .before .wide-word .ensures .0)
+add-i c =
+    row-fits (c .before .before .before .before .before .before .before .before .before .before .pre .1) (c .before .before .before .before .before .before .loop-test .taken)
+    (c .before .before .before .before .before .before .before .before .wide-word .ensures .0)
 
 loop-less : tie.Need-loop-less Inv-loop μ-loop
 loop-less c = fewer (c .before .before .before .before .before .before .loop-test .taken)
@@ -78,8 +85,17 @@ loop-again c =
     let a = c .before .before .before .before .before .before .before .before .before .before .args in (
       next-row (l .i) (l .inv .0),
       rw (c .line .ensures)
-          (line-within (a .t) (a .n) (a .area .now) (c .before .before .before .before .before .before .before .before .before .before .pre .1) (l .i) (l .w) (l .inv .1) (c .before .before .before .before .before .word .result) (c .before .before .before .before .word2 .result) (c .before .before .before .word3 .result) (c .before .before .word4 .result) (c .before .word5 .result)),
-      rw (c .line .ensures, c .before .before .before .before .before .word .ensures, c .before .before .before .before .word2 .ensures, c .before .before .before .word3 .ensures, c .before .before .word4 .ensures, c .before .word5 .ensures)
+          (line-within (a .t) (a .n) (a .area .now) (c .before .before .before .before .before .before .before .before .before .before .pre .1) (l .i) (l .w) (l .inv .1)
+          (c .before .before .before .before .before .word .result) (c .before .before .before .before .word2 .result) (c .before .before .before .word3 .result)
+          (c .before .before .word4 .result) (c .before .word5 .result)),
+      rw (
+        c .line .ensures,
+        c .before .before .before .before .before .word .ensures,
+        c .before .before .before .before .word2 .ensures,
+        c .before .before .before .word3 .ensures,
+        c .before .before .word4 .ensures,
+        c .before .word5 .ensures,
+      )
           (rw (one-of (c .before .before .before .before .before .before .loop-test .taken)) at (l .inv .2)),
     )
 
