@@ -216,12 +216,10 @@ fn entry_start(report: &[u16], entry: usize, count: usize) -> usize
     if report.len() / 3 <= entry {
         return 0;
     }
-    let first = report[3 * entry + 1] as usize;
-    let after = report[3 * entry + 2] as usize;
-    if after < first {
-        return 0;
-    }
-    if count < after {
+    let place = 3 * entry;
+    let first = report[place + 1] as usize;
+    let after = report[place + 2] as usize;
+    if (after < first) | (count < after) {
         return 0;
     }
     first

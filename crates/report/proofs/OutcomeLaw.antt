@@ -1,5 +1,5 @@
 -- What the steps of the module `outcome` find and write.
--- Main statements: none-step, none-end; report-written; several, is-stuck, still-moves, at-rest; refuses, no-room, room.
+-- Main statements: none-step, none-end; report-written; several, is-stuck, still-moves, at-rest; refuses, passed-on, no-room, room.
 use mathlib.Core.Path.{_≡_, refl, sym, ap, ap₂, _∙_}
 use mathlib.Core.Bool.{Bool, true, false}
 use mathlib.Core.List.{List, _++_}
@@ -21,7 +21,7 @@ use Rattle.machine.specs.Answers.{outcomeAnswer, outcomeOut}
 use Rattle.area.specs.Layout.{madeAtWord, readMade}
 use Rattle.area.specs.Lengths.{length-report}
 use Rattle.report.specs.EntryWords.{entries, entries-words}
-use Rattle.report.specs.OutcomeWords.{noneLive, stuckRefusal, wordsOutcome}
+use Rattle.report.specs.OutcomeWords.{noneLive, stuckRefusal, wordsReport, wordsOutcome}
 use Rattle.report.proofs.SortLaw.{sorted-length, entries-length, front-is}
 
 -- a row of the table more
@@ -76,7 +76,7 @@ module _ (area : List ℕ) where
     unfolding wordsOutcome
     still-moves h k = rw (alone, lt-leb 17 (getD area 5 0) h, lt-ltb (getD area 7 0) (getD area 8 0) k)
 
-    pub at-rest : getD area 5 0 < 17 → getD area 8 0 ≤ getD area 7 0 → wordsOutcome area ≡ reported (putInOrder made) moves
+    pub at-rest : getD area 5 0 < 17 → getD area 8 0 ≤ getD area 7 0 → wordsOutcome area ≡ wordsReport area
     unfolding wordsOutcome
     at-rest h k = rw (alone, lt-leb 17 (getD area 5 0) h, le-ltb (getD area 7 0) (getD area 8 0) k)
 
@@ -88,17 +88,22 @@ Answered o out answer last = (answer ≡ outcomeAnswer o (length out)) × (last 
 pub refuses : {o : Outcome} {refusal : Refusal} (out : List ℕ) → o ≡ refusedRow refusal → Answered o out (Refused refusal) out
 refuses out e = rw e (refl, refl)
 
-module _ (area out : List ℕ) {o : Outcome} (e : o ≡ reported (putInOrder (made area)) (moves area)) where
+pub passed-on : {o p : Outcome} {answer : ReportAnswer} {last : List ℕ} (out : List ℕ) → o ≡ p → Answered p out answer last → Answered o out answer last
+passed-on out e a = rw e a
+
+module _ (area out : List ℕ) {o : Outcome} (e : o ≡ wordsReport area) where
   count-is : length (putInOrder (made area)) ≡ getD area 4 0
   count-is = sorted-length (made area) ∙ entries-length (getD area 4 0) area (madeAtWord area)
 
   pub no-room : length out < 3 * getD area 4 0 → Answered o out (Refused (NoRoom (3 * getD area 4 0))) out
+  unfolding wordsReport
   no-room h =
       let t : ltb (length out) (3 * length (putInOrder (made area))) ≡ true = lt-ltb (length out) (3 * length (putInOrder (made area))) (omega (arith, count-is)) in
       rw (e, t, outcomeAnswer, outcomeOut, count-is) (refl, refl)
 
   pub room : {last : List ℕ} {count : ℕ} → 3 * getD area 4 0 ≤ length out → count ≡ moves area
       → last ≡ reportWords (putInOrder (made area)) ++ drop (3 * getD area 4 0) out → Answered o out (Report (getD area 4 0) count) last
+  unfolding wordsReport
   room h m l =
       let t : ltb (length out) (3 * length (putInOrder (made area))) ≡ false = le-ltb (length out) (3 * length (putInOrder (made area))) (omega (arith, count-is)) in
       rw (e, t, outcomeAnswer, outcomeOut, count-is, m, l) (refl, refl)

@@ -4,7 +4,7 @@
 -- several chunks live, or the one not at rest"; "17 .. 20: the finished row stuck so", with the place of the unread symbol.
 -- Rests on area's Layout, Kept, Encoded and ShapeExactly, and on machine's States.
 --
--- Main definitions: noneLive, stuckRefusal, wordsOutcome, Reportable. Main statements: outcome-words, reportable.
+-- Main definitions: noneLive, stuckRefusal, wordsReport, wordsOutcome, Reportable. Main statements: outcome-words, reportable.
 use mathlib.Core.Path.{_≡_, refl, sym, ap, _∙_}
 use mathlib.Core.Bool.{Bool, true, false}
 use mathlib.Core.List.{List, [], _∷_, _++_}
@@ -47,13 +47,16 @@ abbrev pub stuckRefusal : ℕ → ℕ → Refusal
 stuckRefusal status place =
     pick (eqb status 17) (NoRelation place) (pick (eqb status 18) (NoRule place) (pick (eqb status 19) (NotAxiom place) (SideBySide place)))
 
+-- the report of the reductions that the area holds
+unfoldable pub wordsReport : List ℕ → Outcome
+wordsReport area = reported (putInOrder (readMade (getD area 4 0) area (madeAtWord area))) (movesIn area)
+
 -- chunk 0 alone is live and stuck; alone and not at rest; alone with nothing unread; not alone
 unfoldable pub wordsOutcome : List ℕ → Outcome
 wordsOutcome area =
     pick (noneLive (getD area 1 0 - 1) area 10)
     (pick (leb 17 (getD area 5 0)) (refusedRow (stuckRefusal (getD area 5 0) (getD area 7 0 - 1)))
-    (pick (ltb (getD area 7 0) (getD area 8 0)) (refusedRow Unfinished)
-    (reported (putInOrder (readMade (getD area 4 0) area (madeAtWord area))) (movesIn area))))
+    (pick (ltb (getD area 7 0) (getD area 8 0)) (refusedRow Unfinished) (wordsReport area)))
     (refusedRow Unfinished)
 
 -- what is read lies within the area; there are at most 16,384 reductions; chunk 0 has something on its stack
@@ -184,7 +187,7 @@ module _ {t N : ℕ} (area : List ℕ) where
       )
 
   pub outcome-words : HoldsState t N area (decode area) → outcome (decode area) ≡ wordsOutcome area
-  unfolding decode wordsOutcome
+  unfolding decode wordsReport wordsOutcome
   outcome-words h = outcome-of (decode area .chunks) (decode area .reductions) (decode area .moves) h (h .kept .first)
 
   reportable-of : (chunks : List (Option (Chunk Span))) (reductions : List (Reduction Span)) (moves : ℕ)

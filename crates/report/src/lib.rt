@@ -15,15 +15,13 @@ pub fn entry_tokens<'a, 'b>(report: &'a [u16], entry: usize, tokens: &'b [u16]) 
     ensures { λ r. ⌜ r .ptr ≡ wordAddress (tokens .entry .ptr) (entryStart (now (report .entry)) entry (length (now (tokens .entry)))) ⌝ }
 {
     if report.len() / 3 <= entry {
-        return &tokens[0..0];
+        return &tokens[..0];
     }
-    let first = report[3 * entry + 1] as usize;
-    let after = report[3 * entry + 2] as usize;
-    if after < first {
-        return &tokens[0..0];
-    }
-    if tokens.len() < after {
-        return &tokens[0..0];
+    let place = 3 * entry;
+    let first = report[place + 1] as usize;
+    let after = report[place + 2] as usize;
+    if (after < first) | (tokens.len() < after) {
+        return &tokens[..0];
     }
     &tokens[first..after]
 }

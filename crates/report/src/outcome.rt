@@ -9,7 +9,7 @@ ghost use lib.ListN.{length, getD, drop};
 ghost use Rattle.language.specs.Reports.{putInOrder, reportWords};
 ghost use Rattle.machine.specs.Answers.{outcomeAnswer, outcomeOut};
 ghost use Rattle.area.specs.Layout.{madeAtWord, readMade};
-ghost use Rattle.report.specs.OutcomeWords.{noneLive, stuckRefusal, wordsOutcome, Reportable};
+ghost use Rattle.report.specs.OutcomeWords.{noneLive, stuckRefusal, wordsReport, wordsOutcome, Reportable};
 
 // Of so many chunks none but chunk 0 is live.
 fn alone(area: &[u16], count: usize) -> bool
@@ -63,7 +63,21 @@ fn write_report(area: &[u16], count: usize, out: &mut [u16])
     order::put_in_order(out, count);
 }
 
-// The answer of a report, which is written where there is one and room for it.
+// The report of a row at rest, written where there is room for it.
+fn report_of(area: &[u16], out: &mut [u16]) -> ReportAnswer
+    requires { ⌜ Reportable (now area) ⌝ }
+    ensures { λ r. ⌜ r ≡ outcomeAnswer (wordsReport (now (area .entry))) (length (now (out .entry))) ⌝ }
+    ensures { λ _. ⌜ now (out .exit) ≡ outcomeOut (wordsReport (now (area .entry))) (now (out .entry)) ⌝ }
+{
+    let count = area[4] as u32;
+    if out.len() < 3 * (count as usize) {
+        return ReportAnswer::Refused(Refusal::NoRoom(3 * count));
+    }
+    write_report(area, count as usize, out);
+    ReportAnswer::Report(count, moves_of(area[2], area[3]))
+}
+
+// The answer of a report: 16 where chunk 0 is not alone or not at rest, what chunk 0 is stuck with, or its report.
 pub fn outcome(area: &[u16], out: &mut [u16]) -> ReportAnswer
     requires { ⌜ Reportable (now area) ⌝ }
     ensures { λ r. ⌜ r ≡ outcomeAnswer (wordsOutcome (now (area .entry))) (length (now (out .entry))) ⌝ }
@@ -80,10 +94,5 @@ pub fn outcome(area: &[u16], out: &mut [u16]) -> ReportAnswer
     if head < area[8] {
         return ReportAnswer::Refused(Refusal::Unfinished);
     }
-    let count = area[4] as u32;
-    if out.len() < 3 * (count as usize) {
-        return ReportAnswer::Refused(Refusal::NoRoom(3 * count));
-    }
-    write_report(area, count as usize, out);
-    ReportAnswer::Report(count, moves_of(area[2], area[3]))
+    report_of(area, out)
 }

@@ -97,17 +97,18 @@ module _ (numbers : List ℕ) (i : ℕ) (h : i < length numbers) where
 
   spaced-put : (l : List ℕ) (at : ℕ)
       → sets l at (spaced (drop i numbers))
-      ≡ sets (sets l at (decimal number ++ (separator (drop (i + 1) numbers) ∷ []))) (at + length (decimal number) + 1) (spaced (drop (i + 1) numbers))
+      ≡ sets (set (sets l at (decimal number)) (at + length (decimal number)) (separator (drop (i + 1) numbers))) (at + length (decimal number) + 1)
+      (spaced (drop (i + 1) numbers))
   spaced-put l at =
       let s = separator (drop (i + 1) numbers) in
       let rest = spaced (drop (i + 1) numbers) in
-      let e : at + length (decimal number ++ (s ∷ [])) ≡ at + length (decimal number) + 1 = omega (arith, length-append (decimal number) (s ∷ [])) in
-      ap (λ (bytes : List ℕ). sets l at bytes) (spaced-next ∙ sym (append-assoc (decimal number) (s ∷ []) rest))
-      ∙ sets-append l at (decimal number ++ (s ∷ [])) rest ∙ ap (λ (k : ℕ). sets (sets l at (decimal number ++ (s ∷ []))) k rest) e
+      ap (λ (bytes : List ℕ). sets l at bytes) spaced-next ∙ sets-append l at (decimal number) (s ∷ rest)
+      ∙ ap (λ (k : ℕ). sets (set (sets l at (decimal number)) (at + length (decimal number)) s) k rest) (sym (add-one (at + length (decimal number))))
 
-  pub spaced-more : (l next : List ℕ) (at s end : ℕ) → s ≡ separator (drop (i + 1) numbers) → end ≡ at + length (decimal number) + 1
-      → next ≡ sets l at (decimal number ++ (s ∷ [])) → sets l at (spaced (drop i numbers)) ≡ sets next end (spaced (drop (i + 1) numbers))
-  spaced-more l next at s end e f g = rw (g, f, e) (spaced-put l at)
+  -- the digits put, and then the byte after them
+  pub spaced-more : (l last : List ℕ) (at after s : ℕ) → after ≡ at + length (decimal number) → last ≡ sets l at (decimal number)
+      → s ≡ separator (drop (i + 1) numbers) → sets l at (spaced (drop i numbers)) ≡ sets (set last after s) (after + 1) (spaced (drop (i + 1) numbers))
+  spaced-more l last at after s f g e = rw (g, f, e) (spaced-put l at)
 
 pub spaced-none : (numbers : List ℕ) (i : ℕ) → length numbers ≤ i → spaced (drop i numbers) ≡ []
 spaced-none numbers i h = rw (drop-of-length-le numbers h)

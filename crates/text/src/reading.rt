@@ -172,21 +172,19 @@ fn kept(
             let n = state.words;
             words[n] = value;
             next.words = n + 1;
-            next
         }
         Line::Tokens => {
             let n = state.tokens;
             tokens[n] = value;
             next.tokens = n + 1;
-            next
         }
         Line::Cuts => {
             let n = state.cuts;
             cuts[n] = value;
             next.cuts = n + 1;
-            next
         }
     }
+    next
 }
 
 // What may follow a number: a space, or the line's end.
@@ -295,10 +293,11 @@ pub fn finish(state: State) -> TextAnswer
     ensures { λ r. ⌜ r ≡ finishOf state ⌝ }
 {
     let line = state.line;
-    match answer(state) {
+    let said = answer(state);
+    match said {
         TextAnswer::More => TextAnswer::BadLine(line_number(line)),
-        TextAnswer::BadLine(bad) => TextAnswer::BadLine(bad),
-        TextAnswer::Lines(words, tokens, cuts) => TextAnswer::Lines(words, tokens, cuts),
+        TextAnswer::BadLine(_) => said,
+        TextAnswer::Lines(_, _, _) => said,
     }
 }
 

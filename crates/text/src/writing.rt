@@ -2,8 +2,7 @@
 // Each line goes to a place of the run; the answer is the place after it, or that place itself where the line has no room, and then
 // nothing is written.
 ghost use mathlib.Core.Path.{_≡_};
-ghost use mathlib.Core.List.{_++_, _∷_, []};
-ghost use Prim.Native.Nat.{_+_, _≤_, _<_};
+ghost use Prim.Native.Nat.{_+_, _≤_};
 ghost use lib.ListN.{length, drop};
 ghost use lib.Seq.{sets};
 ghost use Rattle.text.specs.Decimals.{decimal};
@@ -40,17 +39,6 @@ fn put_digits(out: &mut [u8], at: usize, value: u32) -> usize
     last + 1
 }
 
-// A number and a byte after it.
-fn put_number(out: &mut [u8], at: usize, value: u32, next: u8) -> usize
-    requires { ⌜ at + length (decimal value) < length (now out) ⌝ }
-    ensures { λ r. ⌜ r ≡ at + length (decimal value) + 1 ⌝ }
-    ensures { λ r. ⌜ now (out .exit) ≡ sets (now (out .entry)) at (decimal value ++ (next ∷ [])) ⌝ }
-{
-    let after = put_digits(out, at, value);
-    out[after] = next;
-    after + 1
-}
-
 // What stands after a number: a space before the next, a line feed after the last.
 fn separator(numbers: &[u32], next: usize) -> u8
     ensures { λ r. ⌜ r ≡ separator (drop next (now (numbers .entry))) ⌝ }
@@ -70,7 +58,9 @@ fn put_numbers(out: &mut [u8], at: usize, numbers: &[u32]) -> usize
     let mut end = at;
     let mut i: usize = 0;
     while i < numbers.len() {
-        end = put_number(out, end, numbers[i], separator(numbers, i + 1));
+        let after = put_digits(out, end, numbers[i]);
+        out[after] = separator(numbers, i + 1);
+        end = after + 1;
         i += 1;
     }
     end

@@ -2,7 +2,7 @@
 use native.Mathlib.Omega.{arith}
 use borrow.Author.Needs.{needs}
 use borrow.Author.Tests.{not-true, not-false}
-use Rattle.report.proofs.OutcomeLaw.{several, is-stuck, still-moves, at-rest, refuses, no-room, room}
+use Rattle.report.proofs.OutcomeLaw.{several, is-stuck, still-moves, at-rest, refuses, passed-on}
 use Rattle.report.proofs.outcome.outcome.Statement.{statement}
 use Rattle.report.proofs.outcome.outcome.Tie as tie
 
@@ -16,7 +16,8 @@ alone-requires : tie.Need-alone-requires
 alone-requires c κs = search needs
 
 returns : tie.Need-returns
-returns c = let s = c .before .before .before .before .before .args in
+returns c =
+    let s = c .before .before .before .before .before .args in
     refuses (s .out .now) (several (s .area .now) (c .before .alone .ensures) (not-true _ (c .if1 .taken)))
 
 shared-slice-read-status : tie.Need-shared-slice-read-status
@@ -35,56 +36,28 @@ refusal-of-requires : tie.Need-refusal-of-requires
 refusal-of-requires c κs = search needs
 
 returns-2 : tie.Need-returns-2
-returns-2 c = let s = c .before .before .before .before .before .before .before .before .before .args in
+returns-2 c =
+    let s = c .before .before .before .before .before .before .before .before .before .args in
     refuses (s .out .now) (is-stuck (s .area .now) (c .before .before .before .before .before .alone .ensures) (not-false _ (c .before .before .before .before .if1 .left)) (c .before .if2 .taken) (c .refusal-of .ensures))
 
 shared-slice-read-if3 : tie.Need-shared-slice-read-if3
 shared-slice-read-if3 c = search needs
 
 returns-3 : tie.Need-returns-3
-returns-3 c = let s = c .before .before .before .before .before .before .before .before .before .before .args in
+returns-3 c =
+    let s = c .before .before .before .before .before .before .before .before .before .before .args in
     refuses (s .out .now) (still-moves (s .area .now) (c .before .before .before .before .before .before .alone .ensures) (not-false _ (c .before .before .before .before .before .if1 .left)) (c .before .before .if2 .left) (c .if3 .taken))
 
-shared-slice-read-count : tie.Need-shared-slice-read-count
-shared-slice-read-count c = search needs
-
-cast-count : tie.Need-cast-count
-cast-count c = search needs
-
-cast-if4 : tie.Need-cast-if4
-cast-if4 c = search needs
-
-mul-if4 : tie.Need-mul-if4
-mul-if4 c = search needs
-
-mul-t22 : tie.Need-mul-t22
-mul-t22 c = search needs
-
-returns-4 : tie.Need-returns-4
-returns-4 c = let s = c .before .before .before .before .before .before .before .before .before .before .before .before .args in
-    no-room (s .area .now) (s .out .now) (at-rest (s .area .now) (c .before .before .before .before .before .before .before .before .alone .ensures) (not-false _ (c .before .before .before .before .before .before .before .if1 .left)) (c .before .before .before .before .if2 .left) (c .before .before .if3 .left)) (c .if4 .taken)
-
-cast-write-report : tie.Need-cast-write-report
-cast-write-report c = search needs
-
-write-report-requires : tie.Need-write-report-requires
-write-report-requires c κs = search needs
-
-shared-slice-read-moves-of : tie.Need-shared-slice-read-moves-of
-shared-slice-read-moves-of c = search needs
-
-shared-slice-read-moves-of-2 : tie.Need-shared-slice-read-moves-of-2
-shared-slice-read-moves-of-2 c = search needs
-
-moves-of-requires : tie.Need-moves-of-requires
-moves-of-requires c κs = search needs
+report-of-requires : tie.Need-report-of-requires
+report-of-requires c κs = search needs
 
 same-length : tie.Need-same-length
 same-length c = search needs
 
-returns-5 : tie.Need-returns-5
-returns-5 c = let s = c .before .before .before .before .before .before .before .before .before .before .before .before .before .before .before .before .before .before .before .args in
-    room (s .area .now) (s .out .now) (at-rest (s .area .now) (c .before .before .before .before .before .before .before .before .before .before .before .before .before .before .before .alone .ensures) (not-false _ (c .before .before .before .before .before .before .before .before .before .before .before .before .before .before .if1 .left)) (c .before .before .before .before .before .before .before .before .before .before .before .if2 .left) (c .before .before .before .before .before .before .before .before .before .if3 .left)) (c .before .before .before .before .before .before .before .if4 .left) (c .moves-of .ensures) (c .before .before .before .before .before .write-report .ensures)
+returns-4 : tie.Need-returns-4
+returns-4 c =
+    let s = c .before .before .before .before .before .before .before .before .before .before .before .before .before .before .args in
+    passed-on (s .out .now) (at-rest (s .area .now) (c .before .before .before .before .before .before .before .before .before .before .alone .ensures) (not-false _ (c .before .before .before .before .before .before .before .before .before .if1 .left)) (c .before .before .before .before .before .before .if2 .left) (c .before .before .before .before .if3 .left)) (c .before .before .report-of .ensures)
 
 pub outcome-spec : {M : Type 1} → statement M
 outcome-spec =
@@ -102,16 +75,6 @@ outcome-spec =
     returns-2
     shared-slice-read-if3
     returns-3
-    shared-slice-read-count
-    cast-count
-    cast-if4
-    mul-if4
-    mul-t22
-    returns-4
-    cast-write-report
-    write-report-requires
-    shared-slice-read-moves-of
-    shared-slice-read-moves-of-2
-    moves-of-requires
+    report-of-requires
     same-length
-    returns-5)
+    returns-4)

@@ -16,20 +16,28 @@ enum-told c = search needs
 line-number-requires : tie.Need-line-number-requires
 line-number-requires c κs = search needs
 
-enum-known-bad : tie.Need-enum-known-bad
-enum-known-bad c = search needs
+enum-told-2 : tie.Need-enum-told-2
+enum-told-2 c = search needs
 
-enum-known-words : tie.Need-enum-known-words
-enum-known-words c = search needs
+enum-told-3 : tie.Need-enum-told-3
+enum-told-3 c = search needs
 
 returns : tie.Need-returns
-returns c = let s = c .before .before .before .before .args .state in ap BadLine (c .line-number .ensures) ∙ ap (λ (t : TextAnswer). finishIn t s) (sym (c .before .enum-told .given .1) ∙ c .before .before .before .answer .ensures)
+returns c =
+    let s = c .before .before .before .before .args .state in
+    ap BadLine (c .line-number .ensures) ∙ ap (λ (t : TextAnswer). finishIn t s) (sym (c .before .enum-told .given .1) ∙ c .before .before .before .answer .ensures)
 
 returns-2 : tie.Need-returns-2
-returns-2 c = let s = c .before .before .before .before .args .state in ap (λ (t : TextAnswer). finishIn t s) (sym (c .before .bad .given .1) ∙ c .before .before .before .answer .ensures)
+returns-2 c =
+    let s = c .before .before .before .args .state in
+    let e = c .enum-told2 .given .1 in
+    e ∙ ap (λ (t : TextAnswer). finishIn t s) (sym e ∙ c .before .before .answer .ensures)
 
 returns-3 : tie.Need-returns-3
-returns-3 c = let s = c .before .before .before .before .args .state in ap (λ (t : TextAnswer). finishIn t s) (sym (c .before .words .given .1) ∙ c .before .before .before .answer .ensures)
+returns-3 c =
+    let s = c .before .before .before .args .state in
+    let e = c .enum-told3 .given .1 in
+    e ∙ ap (λ (t : TextAnswer). finishIn t s) (sym e ∙ c .before .before .answer .ensures)
 
 pub finish-spec : {M : Type 1} → statement M
 finish-spec =
@@ -38,8 +46,8 @@ finish-spec =
     answer-requires
     enum-told
     line-number-requires
-    enum-known-bad
-    enum-known-words
+    enum-told-2
+    enum-told-3
     returns
     returns-2
     returns-3)

@@ -1,9 +1,9 @@
 -- `put_numbers` puts one number after the other: what is left, put from here, is all of them put from the start.
-use Prim.Native.Nat.{ℕ, _+_, _-_, _≤_}
+use Prim.Native.Nat.{ℕ, _+_, _-_, _≤_, _<_}
 use mathlib.Core.List.{List}
 use mathlib.Core.Path.{_≡_, refl, sym, ap, _∙_}
 use native.Mathlib.Omega.{arith}
-use lib.ListN.{length, drop}
+use lib.ListN.{length, drop, length-set}
 use lib.Seq.{sets}
 use Rattle.text.specs.AnswerLines.{spaced, spaced-length, spaced-more, spaced-none}
 use Rattle.text.proofs.writing.put_numbers.Statement.{statement}
@@ -19,11 +19,15 @@ abbrev μ-loop : tie.MeasureT-loop
 loop-holds : tie.Need-loop-holds Inv-loop μ-loop
 loop-holds c = (omega arith, refl, refl, refl)
 
-mul-put-number : tie.Need-mul-put-number Inv-loop μ-loop
-mul-put-number c = omega arith
+mul-put-digits : tie.Need-mul-put-digits Inv-loop μ-loop
+mul-put-digits c = omega arith
 
-shared-slice-read-put-number : tie.Need-shared-slice-read-put-number Inv-loop μ-loop
-shared-slice-read-put-number c = omega arith
+shared-slice-read-put-digits : tie.Need-shared-slice-read-put-digits Inv-loop μ-loop
+shared-slice-read-put-digits c = omega arith
+
+put-digits-requires : tie.Need-put-digits-requires Inv-loop μ-loop
+put-digits-requires c κs = let l = c .before .before .before .loop in
+    omega (arith, spaced-length (c .before .before .before .before .before .before .args .numbers .now) (l .i) (c .before .before .loop-test .taken), l .inv .1, l .inv .2, c .before .before .before .before .before .before .pre)
 
 add-separator : tie.Need-add-separator Inv-loop μ-loop
 add-separator c = omega arith
@@ -31,9 +35,16 @@ add-separator c = omega arith
 separator-requires : tie.Need-separator-requires Inv-loop μ-loop
 separator-requires c κs = tt
 
-put-number-requires : tie.Need-put-number-requires Inv-loop μ-loop
-put-number-requires c κs = let l = c .before .before .before .before .loop in
-    omega (arith, spaced-length (c .before .before .before .before .before .before .before .args .numbers .now) (l .i) (c .before .before .before .loop-test .taken), l .inv .1, l .inv .2, c .before .before .before .before .before .before .before .pre)
+after-within : (c : tie.After-separator Inv-loop μ-loop) → c .before .before .before .put-digits .result < length (c .before .before .before .put-digits .last .0)
+after-within c = let l = c .before .before .before .before .before .before .before .loop in
+    let p = c .before .before .before .put-digits in
+    omega (arith, spaced-length (c .before .before .before .before .before .before .before .before .before .before .args .numbers .now) (l .i) (c .before .before .before .before .before .before .loop-test .taken), l .inv .1, l .inv .2, c .before .before .before .before .before .before .before .before .before .before .pre, p .ensures .0, p .kept .0)
+
+slice-write-out : tie.Need-slice-write-out Inv-loop μ-loop
+slice-write-out c = after-within c
+
+add-end : tie.Need-add-end Inv-loop μ-loop
+add-end c = omega (arith, after-within c)
 
 add-i : tie.Need-add-i Inv-loop μ-loop
 add-i c = omega arith
@@ -44,14 +55,13 @@ loop-less c = omega arith
 loop-again : tie.Need-loop-again Inv-loop μ-loop
 loop-again c =
     let l = c .before .before .before .before .before .before .before .loop in
-    let p = c .before .before .put-number in
-    let s = c .before .before .before .separator in
+    let p = c .before .before .before .put-digits in
     let numbers = c .before .before .before .before .before .before .before .before .before .before .args .numbers .now in
     let h = c .before .before .before .before .before .before .loop-test .taken in (
       omega arith,
-      p .kept .0 ∙ l .inv .1,
+      length-set (p .last .0) (p .result) (c .separator .result) ∙ p .kept .0 ∙ l .inv .1,
       omega (arith, p .ensures .0, spaced-length numbers (l .i) h, l .inv .2),
-      l .inv .3 ∙ spaced-more numbers (l .i) h (l .out) (p .last .0) (l .end) (s .result) (p .result) (s .ensures) (p .ensures .0) (p .ensures .1),
+      l .inv .3 ∙ spaced-more numbers (l .i) h (l .out) (p .last .0) (l .end) (p .result) (c .separator .result) (p .ensures .0) (p .ensures .1) (c .separator .ensures),
     )
 
 same-length : tie.Need-same-length Inv-loop μ-loop
@@ -69,11 +79,13 @@ put-numbers-spec =
     Inv-loop
     μ-loop
     loop-holds
-    mul-put-number
-    shared-slice-read-put-number
+    mul-put-digits
+    shared-slice-read-put-digits
+    put-digits-requires
     add-separator
     separator-requires
-    put-number-requires
+    slice-write-out
+    add-end
     add-i
     loop-less
     loop-again
