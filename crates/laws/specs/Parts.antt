@@ -4,14 +4,15 @@
 --
 -- Main definitions: flat, before.
 -- Main statements: set-part, getD-part (a word by its part and its place there), flat-split, flat-set, length-before, length-flat;
--- drop-past, getD-past (the same for words from some place on), cut-at, held-at; sets-append (stores in a row); part-slice (a part in the middle).
+-- drop-past, getD-past (the same for words from some place on), cut-at, held-at; sets-append (stores in a row); part-slice (a part in the middle); put-word (words put in at the front).
 use mathlib.Core.Path.{_≡_, refl, sym, ap, ap₂, _∙_}
 use mathlib.Core.List.{List, [], _∷_, _++_, append-assoc}
 use Prim.Native.Nat.{ℕ, zero, suc, _+_, _-_, _≤_, _<_}
 use native.Mathlib.Nat.{zero-add, add-zero}
+use native.Mathlib.Numerals.{add-one}
 use native.Mathlib.Omega.{arith}
 use lib.ListN.{length, getD, take, drop, set, length-append, take-append-drop, List·getD-append}
-use lib.Seq.{sets, slice, set-append-left, getD-append-add, take-add, drop-drop, drop-at, getD-drop, length-take-le}
+use lib.Seq.{sets, slice, set-append-left, getD-append-add, take-add, drop-drop, drop-at, getD-drop, length-take-le, drop-cons, set-at, take-suc}
 
 -- a store past the first list
 pub set-append-add : (p q : List ℕ) (i v : ℕ) → set (p ++ q) (length p + i) v ≡ p ++ set q i v
@@ -101,3 +102,11 @@ pub part-slice : {A : Type 0} (i j : ℕ) (l : List A) → i ≤ j → j ≤ len
 part-slice i j l h k =
     let e : j ≡ i + (j - i) = omega arith in
     sym (ap (λ n. drop i (take n l)) e ∙ ap (drop i) (take-add i (j - i) l) ∙ drop-at (take i l) (take (j - i) (drop i l)) i (length-take-le i l (omega arith)))
+
+-- one word more of those put in at the front
+pub put-word : (from to : List ℕ) (i : ℕ) → i < length from → i < length to
+    → set (take i from ++ drop i to) i (getD from i 0) ≡ take (i + 1) from ++ drop (i + 1) to
+put-word from to i h k =
+    let l : length (take i from) ≡ i = length-take-le i from (omega arith) in
+    rw (add-one, drop-cons to i 0 k, set-at (take i from) (getD to i 0) (drop (suc i) to) (getD from i 0) i l, take-suc from i 0 h)
+    (sym (append-assoc (take i from) (getD from i 0 ∷ []) (drop (suc i) to)))

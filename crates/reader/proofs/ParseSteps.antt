@@ -9,9 +9,9 @@ use lib.ListN.{length, getD, take, drop, set, length-drop}
 use lib.Seq.{getD-drop}
 use Rattle.language.specs.Reports.{putInOrder, reportWords}
 use Rattle.area.specs.Layout.{madeAtWord, readMade}
-use Rattle.report.specs.EntryWords.{entries-words}
-use Rattle.report.specs.OutcomeWords.{noneLive}
-use Rattle.report.proofs.OrderLaw.{put-word}
+use Rattle.outcomes.specs.EntryWords.{entries-words}
+use Rattle.outcomes.specs.OutcomeWords.{noneLive}
+use Rattle.laws.specs.Parts.{put-word}
 use Rattle.reader.specs.ParseLaws.{Finished}
 
 -- one word more, of those from word `at` on

@@ -1,7 +1,7 @@
 -- The one-call parse by what its code finds in the words: a row that has started, read until it rests, and what its words then say.
 -- Document 01: "The front-to-back parse is C = 1, also offered as one call"; 17 to 20 "the finished row stuck so"; "The report": an uncut row's
 -- reductions are made in the report's order, so that nothing is left to put in order.
--- Rests on ParseCall and RunMoves, on results' UncutRow and ReadThrough, area's Start, StartKept, Safe, InShape and Decode, and report's OutcomeWords.
+-- Rests on ParseCall and RunMoves, on results' UncutRow and ReadThrough, area's Start, StartKept, Safe, InShape and Decode, and outcomes' OutcomeWords.
 --
 -- Main definitions: Begun (a row has started), Finished (its words once it rests), Parsed.
 -- Main statements: begun-runs, begun-few, begun-parsed, row-read; not-loaded, not-started, begun, parsed.
@@ -47,7 +47,7 @@ use Rattle.area.specs.InShape.{in-shape-holds, holds-in-shape}
 use Rattle.area.specs.Decode.{decode-encode}
 use Rattle.area.specs.Safe.{safe-run, safe-start}
 use Rattle.area.specs.Start.{Startable, startAnswer, startedArea, startArea, starts-exactly}
-use Rattle.report.specs.OutcomeWords.{wordsOutcome, Reportable, outcome-words, reportable}
+use Rattle.outcomes.specs.OutcomeWords.{wordsOutcome, Reportable, outcome-words, reportable}
 use Rattle.reader.specs.ParseCall.{ranOutcome, parseOutcome, thenStart, parseBegun, parseAnswer, parseArea, parseOut}
 use Rattle.reader.specs.RunMoves.{Runnable, RanWords}
 

@@ -10,7 +10,7 @@ ghost use Prim.Native.Nat.{_+_, _*_, _≤_};
 ghost use lib.ListN.{length, take, drop};
 ghost use Rattle.machine.specs.Answers.{outcomeAnswer, outcomeOut};
 ghost use Rattle.area.specs.Layout.{need, zeros};
-ghost use Rattle.report.specs.OutcomeWords.{stuckRefusal, wordsOutcome};
+ghost use Rattle.outcomes.specs.OutcomeWords.{stuckRefusal, wordsOutcome};
 ghost use Rattle.reader.specs.MoveWords.{clearedWords};
 ghost use Rattle.reader.specs.ParseCall.{parseOutcome, parseAnswer, parseArea, parseOut};
 ghost use Rattle.reader.specs.ParseLaws.{Begun, Finished};

@@ -1,5 +1,5 @@
 -- What the steps of the module `outcome` find and write.
--- Main statements: none-step, none-end; report-written; several, is-stuck, still-moves, at-rest; refuses, passed-on, no-room, room.
+-- Main statements: none-step, none-end; report-written.
 use mathlib.Core.Path.{_≡_, refl, sym, ap, ap₂, _∙_}
 use mathlib.Core.Bool.{Bool, true, false}
 use mathlib.Core.List.{List, _++_}
@@ -20,9 +20,9 @@ use Rattle.machine.specs.States.{Outcome, refusedRow, reported}
 use Rattle.machine.specs.Answers.{outcomeAnswer, outcomeOut}
 use Rattle.area.specs.Layout.{madeAtWord, readMade}
 use Rattle.area.specs.Lengths.{length-report}
-use Rattle.report.specs.EntryWords.{entries, entries-words}
-use Rattle.report.specs.OutcomeWords.{noneLive, stuckRefusal, wordsReport, wordsOutcome}
-use Rattle.report.proofs.SortLaw.{sorted-length, entries-length, front-is}
+use Rattle.outcomes.specs.EntryWords.{entries, entries-words, entries-length}
+use Rattle.outcomes.specs.OutcomeWords.{noneLive, stuckRefusal, wordsReport, wordsOutcome}
+use Rattle.report.proofs.SortLaw.{front-is}
 
 -- a row of the table more
 pub none-step : (area : List ℕ) (i chunk count : ℕ) → chunk < count
@@ -47,63 +47,3 @@ report-written area out made count {copied} h c e =
     let d : drop (3 * count) copied ≡ drop (3 * count) out =
     ap (drop (3 * count)) k ∙ drop-at (reportWords l) (drop (3 * count) out) (3 * count) (length-report l ∙ ap (λ m. 3 * m) n) in
     e ∙ ap₂ (λ x y. reportWords (putInOrder x) ++ y) i d
-
--- ---- the outcome, by the tests in the order of the code
-
-module _ (area : List ℕ) where
-  abbrev made : List (Reduction Span)
-  made = readMade (getD area 4 0) area (madeAtWord area)
-
-  abbrev moves : ℕ
-  moves = getD area 2 0 + 65536 * getD area 3 0
-
-  abbrev Alone : Bool → Type 0
-  Alone b = b ≡ noneLive (getD area 1 0 - 1) area 10
-
-  pub several : {b : Bool} → Alone b → b ≡ false → wordsOutcome area ≡ refusedRow Unfinished
-  unfolding wordsOutcome
-  several a e = rw (sym a ∙ e)
-
-  module _ {b : Bool} (a : Alone b) (e : b ≡ true) where
-    alone : noneLive (getD area 1 0 - 1) area 10 ≡ true
-    alone = sym a ∙ e
-
-    pub is-stuck : {refusal : Refusal} → 17 ≤ getD area 5 0 → refusal ≡ stuckRefusal (getD area 5 0) (getD area 7 0 - 1) → wordsOutcome area ≡ refusedRow refusal
-    unfolding wordsOutcome
-    is-stuck h q = rw (alone, le-leb 17 (getD area 5 0) h) (ap refusedRow (sym q))
-
-    pub still-moves : getD area 5 0 < 17 → getD area 7 0 < getD area 8 0 → wordsOutcome area ≡ refusedRow Unfinished
-    unfolding wordsOutcome
-    still-moves h k = rw (alone, lt-leb 17 (getD area 5 0) h, lt-ltb (getD area 7 0) (getD area 8 0) k)
-
-    pub at-rest : getD area 5 0 < 17 → getD area 8 0 ≤ getD area 7 0 → wordsOutcome area ≡ wordsReport area
-    unfolding wordsOutcome
-    at-rest h k = rw (alone, lt-leb 17 (getD area 5 0) h, le-ltb (getD area 7 0) (getD area 8 0) k)
-
--- ---- the answer, and the run then
-
-abbrev pub Answered : Outcome → List ℕ → ReportAnswer → List ℕ → Type 0
-Answered o out answer last = (answer ≡ outcomeAnswer o (length out)) × (last ≡ outcomeOut o out)
-
-pub refuses : {o : Outcome} {refusal : Refusal} (out : List ℕ) → o ≡ refusedRow refusal → Answered o out (Refused refusal) out
-refuses out e = rw e (refl, refl)
-
-pub passed-on : {o p : Outcome} {answer : ReportAnswer} {last : List ℕ} (out : List ℕ) → o ≡ p → Answered p out answer last → Answered o out answer last
-passed-on out e a = rw e a
-
-module _ (area out : List ℕ) {o : Outcome} (e : o ≡ wordsReport area) where
-  count-is : length (putInOrder (made area)) ≡ getD area 4 0
-  count-is = sorted-length (made area) ∙ entries-length (getD area 4 0) area (madeAtWord area)
-
-  pub no-room : length out < 3 * getD area 4 0 → Answered o out (Refused (NoRoom (3 * getD area 4 0))) out
-  unfolding wordsReport
-  no-room h =
-      let t : ltb (length out) (3 * length (putInOrder (made area))) ≡ true = lt-ltb (length out) (3 * length (putInOrder (made area))) (omega (arith, count-is)) in
-      rw (e, t, outcomeAnswer, outcomeOut, count-is) (refl, refl)
-
-  pub room : {last : List ℕ} {count : ℕ} → 3 * getD area 4 0 ≤ length out → count ≡ moves area
-      → last ≡ reportWords (putInOrder (made area)) ++ drop (3 * getD area 4 0) out → Answered o out (Report (getD area 4 0) count) last
-  unfolding wordsReport
-  room h m l =
-      let t : ltb (length out) (3 * length (putInOrder (made area))) ≡ false = le-ltb (length out) (3 * length (putInOrder (made area))) (omega (arith, count-is)) in
-      rw (e, t, outcomeAnswer, outcomeOut, count-is, m, l) (refl, refl)

@@ -13,8 +13,8 @@ use Rattle.area.specs.Layout.{decode}
 use Rattle.area.specs.Shape.{inShape}
 use Rattle.area.specs.InShape.{in-shape-holds}
 use Rattle.report.specs.ReportCall.{reportOutcome, reportAnswer, reportOut}
-use Rattle.report.specs.OutcomeWords.{wordsOutcome, Reportable, outcome-words, reportable}
-use Rattle.report.proofs.OutcomeLaw.{Answered, refuses}
+use Rattle.outcomes.specs.OutcomeWords.{wordsOutcome, Reportable, outcome-words, reportable}
+use Rattle.outcomes.specs.OutcomeTests.{Answered, refuses}
 
 module _ (words matrix area : List ℕ) where
   abbrev InShape : Bool → Type 0

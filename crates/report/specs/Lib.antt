@@ -1,4 +1,2 @@
-pub mod EntryWords
 pub mod Merging
-pub mod OutcomeWords
 pub mod ReportCall

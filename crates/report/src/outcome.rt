@@ -9,7 +9,7 @@ ghost use lib.ListN.{length, getD, drop};
 ghost use Rattle.language.specs.Reports.{putInOrder, reportWords};
 ghost use Rattle.machine.specs.Answers.{outcomeAnswer, outcomeOut};
 ghost use Rattle.area.specs.Layout.{madeAtWord, readMade};
-ghost use Rattle.report.specs.OutcomeWords.{noneLive, stuckRefusal, wordsReport, wordsOutcome, Reportable};
+ghost use Rattle.outcomes.specs.OutcomeWords.{noneLive, stuckRefusal, wordsReport, wordsOutcome, Reportable};
 
 // Of so many chunks none but chunk 0 is live.
 fn alone(area: &[u16], count: usize) -> bool

@@ -53,10 +53,15 @@ returns-2 c =
 
 -- a byte that was tested
 byte-by : (c : tie.After-byte-fits Inv-loop2 μ-loop2 Inv-loop μ-loop)
-    → byteAt (c .before .before .before .before .before .before .word .result) (c .before .before .before .before .before .before .before .before .before .before .before .before .before .args .matrix .now) (c .before .before .before .loop2 .at) ≡ c .byte-fits .result
+    → let t = c .before .before .before .before .before .before .word .result in
+    let matrix = c .before .before .before .before .before .before .before .before .before .before .before .before .before .args .matrix .now in
+    byteAt t matrix (c .before .before .before .loop2 .at) ≡ c .byte-fits .result
 byte-by c =
     let l = c .before .before .before .loop2 in
-    byte-here (c .before .before .before .before .before .before .word .result) (c .before .before .before .before .before .before .before .before .before .before .before .before .before .args .matrix .now) (l .at) (c .before .before .before .before .before .loop .a) (l .b) (l .inv .1) (c .before .before .loop2-test .taken) ∙ sym (c .byte-fits .ensures)
+    let t = c .before .before .before .before .before .before .word .result in
+    let matrix = c .before .before .before .before .before .before .before .before .before .before .before .before .before .args .matrix .now in
+    byte-here t matrix (l .at) (c .before .before .before .before .before .loop .a) (l .b) (l .inv .1) (c .before .before .loop2-test .taken)
+    ∙ sym (c .byte-fits .ensures)
 
 word-requires : tie.Need-word-requires Inv-loop2 μ-loop2 Inv-loop μ-loop
 word-requires c κs =
@@ -79,7 +84,8 @@ returns-3 : tie.Need-returns-3 Inv-loop2 μ-loop2 Inv-loop μ-loop
 returns-3 c =
     let a = c .before .before .before .before .before .before .before .before .before .before .before .before .before .before .args in
     let t = c .before .before .before .before .before .before .before .word in
-    let unfit = byte-fails (t .result) (a .matrix .now) (c .before .before .before .before .loop2 .at) (omega arith) (byte-by (c .before) ∙ not-true (c .before .byte-fits .result) (c .if2 .taken)) in
+    let unfit = byte-fails (t .result) (a .matrix .now) (c .before .before .before .before .loop2 .at) (omega arith)
+    (byte-by (c .before) ∙ not-true (c .before .byte-fits .result) (c .if2 .taken)) in
     sym (by-matrix (c .before .before .before .before .before .before .before .before .before) ∙ ap (λ k. ruleB k (a .matrix .now)) (sym (t .ensures)) ∙ unfit)
 
 add-at : tie.Need-add-at Inv-loop2 μ-loop2 Inv-loop μ-loop

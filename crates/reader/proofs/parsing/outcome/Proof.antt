@@ -1,7 +1,7 @@
 -- `parsing::outcome` meets its contract: each return by the tests that led there, with report's laws of the same outcome (OutcomeLaw).
 use native.Mathlib.Omega.{arith}
 use mathlib.Core.Path.{refl}
-use Rattle.report.proofs.OutcomeLaw.{is-stuck, at-rest, refuses, no-room, room}
+use Rattle.outcomes.specs.OutcomeTests.{is-stuck, at-rest, refuses, no-room, room}
 use Rattle.reader.proofs.ParseSteps.{is-alone, written}
 use borrow.Author.Needs.{needs}
 use Rattle.reader.proofs.parsing.outcome.Statement.{statement}

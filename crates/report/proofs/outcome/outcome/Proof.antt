@@ -1,8 +1,8 @@
--- `report::outcome::outcome` meets its contract: each return by the tests that led there (OutcomeLaw).
+-- `report::outcome::outcome` meets its contract: each return by the tests that led there (OutcomeTests).
 use native.Mathlib.Omega.{arith}
 use borrow.Author.Needs.{needs}
 use borrow.Author.Tests.{not-true, not-false}
-use Rattle.report.proofs.OutcomeLaw.{several, is-stuck, still-moves, at-rest, refuses, passed-on}
+use Rattle.outcomes.specs.OutcomeTests.{several, is-stuck, still-moves, at-rest, refuses, passed-on}
 use Rattle.report.proofs.outcome.outcome.Statement.{statement}
 use Rattle.report.proofs.outcome.outcome.Tie as tie
 

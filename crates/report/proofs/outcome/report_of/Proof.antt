@@ -1,7 +1,7 @@
--- `report::outcome::report_of` meets its contract: no room, or the report written (OutcomeLaw).
+-- `report::outcome::report_of` meets its contract: no room, or the report written (OutcomeTests).
 use mathlib.Core.Path.{refl}
 use borrow.Author.Needs.{needs}
-use Rattle.report.proofs.OutcomeLaw.{no-room, room}
+use Rattle.outcomes.specs.OutcomeTests.{no-room, room}
 use Rattle.report.proofs.outcome.report_of.Statement.{statement}
 use Rattle.report.proofs.outcome.report_of.Tie as tie
 
