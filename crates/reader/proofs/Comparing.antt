@@ -1,15 +1,16 @@
 -- A rule's right side compared with a handle, word by word, from word i of the grammar and slot s of the area on.
 -- Rests on MatchWords, and on table's Laid.
 --
--- Main statements: body-next, body-last (where a right side ends); same-past, same-differ (the next word and the next block), same-short, same-longer, same-both (one of them ends, both end).
-use Prim.Native.Nat.{ℕ, _+_, _<_, _≤_}
-use mathlib.Core.Path.{_≡_, _∙_}
+-- Main statements: body-next, body-last (where a right side ends); count-more, count-none (how many symbols there are); same-length (a right
+-- side of another length), same-past, same-differ (the next word and the next block), same-both (both end).
+use Prim.Native.Nat.{ℕ, suc, _+_, _<_, _≤_}
+use mathlib.Core.Path.{_≡_, refl, ap, _∙_}
 use mathlib.Core.Bool.{Bool, true, false, _&&_}
-use mathlib.Core.List.{List, []}
+use mathlib.Core.List.{List, [], _∷_}
 use native.Mathlib.Omega.{arith}
 use native.Mathlib.Numerals.{add-one}
 use lib.Dec.{eqb}
-use lib.ListN.{length, getD, take, drop-of-length-le, length-take}
+use lib.ListN.{length, getD, take, drop-of-length-le, length-take, length-drop}
 use lib.Seq.{slice, slice-cons}
 use borrow.Author.Tests.{eq-eqb, ne-eqb}
 use Rattle.language.specs.Words.{countR, entry, bodyEnd}
@@ -27,25 +28,51 @@ body-last words r h = ends-last words r (omega arith)
 slice-none : (i end : ℕ) (words : List ℕ) → end ≤ i → slice i end words ≡ []
 slice-none i end words h = drop-of-length-le (take end words) {i = i} (omega (arith, length-take end words))
 
+and-false : (b : Bool) → (b && false) ≡ false
+and-false true = refl
+and-false false = refl
+
+-- lists of different lengths differ
+unlike : (v w : List ℕ) → (length v ≡ length w → ⊥) → sameWords v w ≡ false
+unlike [] [] d = absurd (d refl)
+unlike [] (y ∷ w) d = refl
+unlike (x ∷ v) [] d = refl
+unlike (x ∷ v) (y ∷ w) d = rw (unlike v w (λ e. d (ap suc e))) (and-false (eqb x y))
+
+module _ {area : List ℕ} {head s : ℕ} (w : Whole area head s) where
+  -- the symbols left to count
+  pub count-more : s < head → length (handleWords area s head) ≡ length (handleWords area (s + slotWord area s 2) head) + 1
+  count-more l = rw (handle-cons w l, add-one (length (handleWords area (s + slotWord area s 2) head)))
+
+pub count-none : (area : List ℕ) (s head : ℕ) → head ≤ s → length (handleWords area s head) ≡ 0
+count-none area s head l = rw (handle-none area s head l)
+
 module _ (words : List ℕ) (end : ℕ) (fits : end ≤ length words) (area : List ℕ) (head : ℕ) (i s : ℕ) where
   abbrev same : Bool
   same = sameWords (slice i end words) (handleWords area s head)
 
-  module _ (w : Whole area head s) (more : s < head) where
-    next : i < end → same ≡ (eqb (getD words i 0) (slotWord area s 0) && sameWords (slice (i + 1) end words) (handleWords area (s + slotWord area s 2) head))
-    next h = rw (slice-cons i end words 0 h fits, handle-cons w more, add-one i)
+  -- as many words as symbols, or no match
+  pub same-length : Whole area head s → s < head → (end ≡ i + length (handleWords area s head) → ⊥) → same ≡ false
+  same-length w l d =
+      unlike (slice i end words) (handleWords area s head)
+      (λ e. d (omega (arith, e, count-more w l, length-drop i (take end words), length-take end words)))
 
-    pub same-past : i < end → getD words i 0 ≡ slotWord area s 0 → same ≡ sameWords (slice (i + 1) end words) (handleWords area (s + slotWord area s 2) head)
-    same-past h e = next h ∙ rw (eq-eqb (getD words i 0) (slotWord area s 0) e)
+  module _ (w : Whole area head s) (more : s < head) (counts : i + length (handleWords area s head) ≡ end) where
+    -- there is a word for the next symbol
+    pub same-there : i < end
+    same-there = omega (arith, counts, count-more w more)
 
-    pub same-differ : i < end → (getD words i 0 ≡ slotWord area s 0 → ⊥) → same ≡ false
-    same-differ h d = next h ∙ rw (ne-eqb (getD words i 0) (slotWord area s 0) d)
+    pub counts-on : i + 1 + length (handleWords area (s + slotWord area s 2) head) ≡ end
+    counts-on = omega (arith, counts, count-more w more)
 
-    pub same-short : end ≤ i → same ≡ false
-    same-short h = rw (slice-none i end words h, handle-cons w more)
+    next : same ≡ (eqb (getD words i 0) (slotWord area s 0) && sameWords (slice (i + 1) end words) (handleWords area (s + slotWord area s 2) head))
+    next = rw (slice-cons i end words 0 same-there fits, handle-cons w more, add-one i)
 
-  pub same-longer : head ≤ s → i < end → same ≡ false
-  same-longer l h = rw (slice-cons i end words 0 h fits, handle-none area s head l)
+    pub same-past : getD words i 0 ≡ slotWord area s 0 → same ≡ sameWords (slice (i + 1) end words) (handleWords area (s + slotWord area s 2) head)
+    same-past e = next ∙ rw (eq-eqb (getD words i 0) (slotWord area s 0) e)
 
-  pub same-both : head ≤ s → end ≤ i → same ≡ true
-  same-both l h = rw (slice-none i end words h, handle-none area s head l)
+    pub same-differ : (getD words i 0 ≡ slotWord area s 0 → ⊥) → same ≡ false
+    same-differ d = next ∙ rw (ne-eqb (getD words i 0) (slotWord area s 0) d)
+
+  pub same-both : head ≤ s → i + length (handleWords area s head) ≡ end → same ≡ true
+  same-both l counts = rw (slice-none i end words (omega (arith, counts, count-none area s head l)), handle-none area s head l)

@@ -1,7 +1,7 @@
 -- What is at hand after each store of a move: the hand with that word changed is what the area holds then.
 -- Rests on AtHand, MoveWords and Ready.
 --
--- Main statements: hand-rests; hand-counted, put-ticks, stuck-ticks, end-ticks, over-roomy, over-ticks; hand-pushed, hand-stuck, hand-accepted, hand-reduced.
+-- Main statements: hand-rests; hand-counted, still-few, hand-ticks; over-roomy; hand-pushed, hand-stuck, hand-accepted, hand-reduced.
 use mathlib.Core.Path.{_≡_, refl, sym, ap, subst, _∙_}
 use mathlib.Core.Bool.{Bool}
 use mathlib.Core.List.{List}
@@ -13,9 +13,9 @@ use lib.Seq.{getD-set-other, getD-set-same}
 use Rattle.area.specs.Layout.{tableAt, rowWord, slotWord, movesIn, madeAtWord}
 use Rattle.reader.specs.declared.moves.Hand.{Hand}
 use Rattle.reader.specs.AtHand.{AtHand}
-use Rattle.reader.specs.MoveWords.{headOf, endOf, marksOf, slotAt, tickWords, putWords, pushWords, stickWords, endedWords, acceptWords, clearedWords, overWords, notedWords, replacedWords, reduceWords, Ticks, Pushable, Stickable, Acceptable, Roomy, Reducible}
+use Rattle.reader.specs.MoveWords.{headOf, slotAt, tickWords, putWords, endedWords, clearedWords, overWords, notedWords, replacedWords, madeWords, Ticks, Pushable, Stickable, Acceptable, Roomy, Reducible}
 use Rattle.reader.specs.Moved.{restsBy, restsIn}
-use Rattle.reader.proofs.Ready.{put-ready, stick-ready, ended-ready, cleared-length, cleared-before, over-before, over-length, replaced-before, replaced-roomy, reduce-ready}
+use Rattle.reader.proofs.Ready.{cleared-length, cleared-before, over-before, over-length, replaced-before, replaced-roomy}
 use Rattle.reader.proofs.Zeroing.{ended-zeroed}
 
 pub hand-rests : {area : List ℕ} {c : ℕ} {h : Hand} → AtHand area c h → restsBy (eqb (h .status) 1) (h .end) (h .head) ≡ restsIn area c
@@ -24,6 +24,10 @@ hand-rests a = rw (a .status, a .end, a .head)
 -- the move can be counted
 pub hand-counted : {area : List ℕ} {c : ℕ} {h : Hand} → AtHand area c h → 5 ≤ length area → getD area 2 0 < 65536 → getD area 3 0 < 65535 → Ticks area (h .moves)
 hand-counted a long low few = record { long = long; low = low; few = few; count = a .moves }
+
+-- .. where no move was counted since there were few enough
+pub still-few : {area area′ : List ℕ} {c : ℕ} {h r : Hand} → AtHand area c h → AtHand area′ c r → r .moves ≡ h .moves → getD area 2 0 < 65536 → getD area 3 0 < 65535 → getD area′ 3 0 < 65535
+still-few a b e low few = omega (arith, a .moves, b .moves, e, low, few)
 
 -- ---- one store
 
@@ -105,7 +109,7 @@ module _ {area : List ℕ} {c : ℕ} {h : Hand} (a : AtHand area c h) (v : ℕ) 
   }
 
 -- the move counted
-hand-ticks : {area : List ℕ} {c : ℕ} {h : Hand} → AtHand area c h → 5 ≤ length area
+pub hand-ticks : {area : List ℕ} {c : ℕ} {h : Hand} → AtHand area c h → 5 ≤ length area
     → AtHand (tickWords area) c (record { status = h .status; from = h .from; head = h .head; end = h .end; marks = h .marks; reductions = h .reductions; moves = h .moves + 1 })
 unfolding tickWords
 hand-ticks {area} {c} {h} a l =
@@ -125,69 +129,48 @@ hand-ticks {area} {c} {h} a l =
       moves = rw (second, third, a .moves) (omega arith);
     }
 
--- ---- a move
+-- ---- a move, not yet counted
 
 module _ (area : List ℕ) (c : ℕ) (h : Hand) where
+  -- a symbol put on
   module _ (mark : ℕ) (p : Pushable area c mark × AtHand area c h) where
     abbrev headed : ℕ
     headed = h .head + slotWord area (h .head) 2
 
-    -- a symbol put on
-    put-stored : set (set (set area (slotAt area (h .head) + 1) mark) (tableAt c 2) headed) (tableAt c 4) (h .marks + mark) ≡ putWords area c mark
+    abbrev put : List ℕ
+    put = set (set (set area (slotAt area (h .head) + 1) mark) (tableAt c 2) headed) (tableAt c 4) (h .marks + mark)
+
+    pub hand-pushed : (put ≡ putWords area c mark)
+        × AtHand put c (record { status = h .status; from = h .from; head = headed; end = h .end; marks = h .marks + mark; reductions = h .reductions; moves = h .moves })
     unfolding putWords
-    put-stored = rw (p .1 .head, p .1 .marks)
-
-    pub put-ticks : getD area 2 0 < 65536 → Ticks (set (set (set area (slotAt area (h .head) + 1) mark) (tableAt c 2) headed) (tableAt c 4) (h .marks + mark)) (h .moves)
-    put-ticks low = rw put-stored (put-ready area c mark (h .moves) (hand-counted (p .1) (omega (arith, p .0 .slot)) low (p .0 .few)))
-
-    pub hand-pushed :
-        (tickWords (set (set (set area (slotAt area (h .head) + 1) mark) (tableAt c 2) headed) (tableAt c 4) (h .marks + mark)) ≡ pushWords area c mark)
-        × AtHand (tickWords (set (set (set area (slotAt area (h .head) + 1) mark) (tableAt c 2) headed) (tableAt c 4) (h .marks + mark))) c
-        (record { status = h .status; from = h .from; head = headed; end = h .end; marks = h .marks + mark; reductions = h .reductions; moves = h .moves + 1 })
-    unfolding pushWords
     hand-pushed = (
-      ap tickWords put-stored,
-      hand-ticks
-          (hand-marks {area = set (set area (slotAt area (h .head) + 1) mark) (tableAt c 2) headed}
+      rw (p .1 .head, p .1 .marks),
+      hand-marks {area = set (set area (slotAt area (h .head) + 1) mark) (tableAt c 2) headed}
           (hand-head {area = set area (slotAt area (h .head) + 1) mark} (hand-beyond (p .1) mark (slotAt area (h .head) + 1) (omega (arith, p .0 .chunk))) headed (simp length-set (omega (arith, p .0 .chunk, p .0 .slot))))
-          (h .marks + mark) (simp length-set (omega (arith, p .0 .chunk, p .0 .slot))))
-          (simp length-set (omega (arith, p .0 .slot))),
+          (h .marks + mark) (simp length-set (omega (arith, p .0 .chunk, p .0 .slot))),
     )
 
   -- a chunk stuck
-  module _ (status : ℕ) (p : Stickable area c × AtHand area c h) where
-    pub stuck-ticks : getD area 2 0 < 65536 → Ticks (set area (tableAt c 0) status) (h .moves)
-    stuck-ticks low = stick-ready area c status (h .moves) (hand-counted (p .1) (omega (arith, p .0 .room)) low (p .0 .few))
-
-    pub hand-stuck : AtHand (tickWords (set area (tableAt c 0) status)) c
-        (record { status = status; from = h .from; head = h .head; end = h .end; marks = h .marks; reductions = h .reductions; moves = h .moves + 1 })
-    hand-stuck = hand-ticks (hand-status (p .1) status (omega (arith, p .0 .chunk, p .0 .room))) (simp length-set (omega (arith, p .0 .room)))
+  pub hand-stuck : (status : ℕ) → Stickable area c × AtHand area c h → AtHand (set area (tableAt c 0) status) c
+      (record { status = status; from = h .from; head = h .head; end = h .end; marks = h .marks; reductions = h .reductions; moves = h .moves })
+  hand-stuck status p = hand-status (p .1) status (omega (arith, p .0 .chunk, p .0 .room))
 
   -- the # of the end read
   module _ (p : Acceptable area c × AtHand area c h) where
     abbrev cleared : List ℕ
     cleared = clearedWords area (slotAt area (h .end - 1)) 4
 
-    end-stored : set cleared (tableAt c 3) (h .end - 1) ≡ endedWords area c
-    end-stored = rw (p .1 .end) (ended-zeroed area c (p .0))
-
     long-cleared : length cleared ≡ length area
     long-cleared = cleared-length area (slotAt area (h .end - 1)) 4 (omega (arith, p .0 .some, p .0 .room, p .1 .end))
 
-    pub end-ticks : getD area 2 0 < 65536 → Ticks (set cleared (tableAt c 3) (h .end - 1)) (h .moves)
-    end-ticks low = rw end-stored (ended-ready area c (h .moves) (hand-counted (p .1) (omega (arith, p .0 .room)) low (p .0 .few)))
-
-    pub hand-accepted : (tickWords (set cleared (tableAt c 3) (h .end - 1)) ≡ acceptWords area c)
-        × AtHand (tickWords (set cleared (tableAt c 3) (h .end - 1))) c
-        (record { status = h .status; from = h .from; head = h .head; end = h .end - 1; marks = h .marks; reductions = h .reductions; moves = h .moves + 1 })
-    unfolding acceptWords
+    pub hand-accepted : (set cleared (tableAt c 3) (h .end - 1) ≡ endedWords area c)
+        × AtHand (set cleared (tableAt c 3) (h .end - 1)) c
+        (record { status = h .status; from = h .from; head = h .head; end = h .end - 1; marks = h .marks; reductions = h .reductions; moves = h .moves })
     hand-accepted = (
-      ap tickWords end-stored,
-      hand-ticks
-          (hand-end {area = cleared}
+      rw (p .1 .end) (ended-zeroed area c (p .0)),
+      hand-end {area = cleared}
           (hand-same (p .1) (λ j q l. cleared-before area (slotAt area (h .end - 1)) 4 j (omega (arith, p .0 .chunk)) (omega (arith, p .0 .room, p .1 .end))))
-          (h .end - 1) (omega (arith, long-cleared, p .0 .chunk, p .0 .room)))
-          (simp length-set (omega (arith, long-cleared, p .0 .room))),
+          (h .end - 1) (omega (arith, long-cleared, p .0 .chunk, p .0 .room)),
     )
 
   -- a handle replaced
@@ -219,13 +202,14 @@ module _ (area : List ℕ) (c : ℕ) (h : Hand) where
     pub over-roomy : Roomy stored × (h .reductions ≡ getD stored 4 0)
     over-roomy = (rw over-stored (replaced-roomy area c from symbol (p .0)), hand-over .reductions)
 
-    module _ (rule first after : ℕ) where
-      pub over-ticks : getD area 2 0 < 65536 → Ticks (notedWords stored rule first after) (h .moves)
-      over-ticks low =
-          rw over-stored
-          (reduce-ready area c from symbol (p .0) (h .moves) (hand-counted (p .1) (omega (arith, p .0 .room .room)) low (p .0 .few)) rule first after)
+    front-over : (j : ℕ) → j < 5 → getD stored j 0 ≡ getD area j 0
+    front-over j l = rw over-stored (replaced-before area c from symbol (p .0) j l)
 
-      hand-noted : AtHand (notedWords stored rule first after) c
+    module _ (rule : ℕ) where
+      abbrev made : List ℕ
+      made = notedWords stored rule (from - 1) (h .head - 1)
+
+      hand-noted : AtHand made c
           (record { status = h .status; from = h .from; head = h .head; end = h .end; marks = h .marks - 1; reductions = h .reductions + 1; moves = h .moves })
       unfolding notedWords
       hand-noted =
@@ -233,22 +217,13 @@ module _ (area : List ℕ) (c : ℕ) (h : Hand) where
           let far : tableAt c 5 ≤ at = omega (arith, p .0 .chunk, front-over 1 (omega arith)) in
           rw (hand-over .reductions)
           (hand-reductions
-          (hand-beyond (hand-beyond (hand-beyond hand-over rule at far) first (at + 1) (omega arith)) after (at + 2) (omega arith))
+          (hand-beyond (hand-beyond (hand-beyond hand-over rule at far) (from - 1) (at + 1) (omega arith)) (h .head - 1) (at + 2) (omega arith))
           (getD stored 4 0 + 1) (simp length-set (omega (arith, long-over, p .0 .room .room))))
-        where
-          front-over : (j : ℕ) → j < 5 → getD stored j 0 ≡ getD area j 0
-          front-over j l = rw over-stored (replaced-before area c from symbol (p .0) j l)
 
-    long-noted : (rule first after : ℕ) → 5 ≤ length (notedWords stored rule first after)
-    unfolding notedWords
-    long-noted rule first after = simp length-set (omega (arith, long-over, p .0 .room .room))
-
-    pub hand-reduced : (rule : ℕ) →
-        (tickWords (notedWords stored rule (from - 1) (h .head - 1)) ≡ reduceWords area c from symbol rule)
-        × AtHand (tickWords (notedWords stored rule (from - 1) (h .head - 1))) c
-        (record { status = h .status; from = h .from; head = h .head; end = h .end; marks = h .marks - 1; reductions = h .reductions + 1; moves = h .moves + 1 })
-    unfolding reduceWords
-    hand-reduced rule = (
-      rw (p .1 .head) (ap (λ (l : List ℕ). tickWords (notedWords l rule (from - 1) (headOf area c - 1))) (rw (p .1 .head) at over-stored)),
-      hand-ticks (hand-noted rule (from - 1) (h .head - 1)) (long-noted rule (from - 1) (h .head - 1)),
-    )
+      pub hand-reduced : (made ≡ madeWords area c from symbol rule)
+          × AtHand made c
+          (record { status = h .status; from = h .from; head = h .head; end = h .end; marks = h .marks - 1; reductions = h .reductions + 1; moves = h .moves })
+      hand-reduced = (
+        rw (p .1 .head) (ap (λ (l : List ℕ). notedWords l rule (from - 1) (headOf area c - 1)) (rw (p .1 .head) at over-stored)),
+        hand-noted,
+      )

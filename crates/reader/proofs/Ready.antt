@@ -1,7 +1,8 @@
--- The first five words and the length stay while a move's other words are stored: so the move can be counted at the end.
+-- What stays while other words are stored: the count of moves while two chunks are joined, so that the join can be counted; the words below a
+-- handle and the length while it is replaced, so that the reduction can be noted.
 -- Rests on MoveWords.
 --
--- Main statements: put-ready, stick-ready, ended-ready, one-ready, over-before, over-length, replaced-roomy, reduce-ready.
+-- Main statements: one-ready, cleared-before, over-before, over-length, replaced-before, replaced-roomy.
 use Prim.Native.Nat.{ℕ, zero, suc, _+_, _*_, _-_, _<_, _≤_}
 use mathlib.Core.Path.{_≡_, _∙_}
 use mathlib.Core.List.{List, _++_}
@@ -19,26 +20,6 @@ ticks-set area i v h t = record {
   few = rw (getD-set-other area i 3 v 0 (omega arith)) (t .few);
   count = rw (getD-set-other area i 2 v 0 (omega arith), getD-set-other area i 3 v 0 (omega arith)) (t .count);
 }
-
-pub put-ready : (area : List ℕ) (c mark moves : ℕ) → Ticks area moves → Ticks (putWords area c mark) moves
-unfolding putWords
-put-ready area c mark moves t =
-    ticks-set _ (tableAt c 4) (marksOf area c + mark) (omega arith)
-    (ticks-set _ (tableAt c 2) (headOf area c + slotWord area (headOf area c) 2) (omega arith)
-    (ticks-set area (slotAt area (headOf area c) + 1) mark (omega arith) t))
-
-pub stick-ready : (area : List ℕ) (c status moves : ℕ) → Ticks area moves → Ticks (set area (tableAt c 0) status) moves
-stick-ready area c status moves t = ticks-set area (tableAt c 0) status (omega arith) t
-
-pub ended-ready : (area : List ℕ) (c moves : ℕ) → Ticks area moves → Ticks (endedWords area c) moves
-unfolding endedWords
-ended-ready area c moves t =
-    let last : ℕ = slotAt area (endOf area c - 1) in
-    ticks-set _ (tableAt c 3) (endOf area c - 1) (omega arith)
-    (ticks-set _ (last + 3) 0 (omega arith)
-    (ticks-set _ (last + 2) 0 (omega arith)
-    (ticks-set _ (last + 1) 0 (omega arith)
-    (ticks-set area (last + 0) 0 (omega arith) t))))
 
 -- ---- a join
 
@@ -90,15 +71,6 @@ pub over-length : (area : List ℕ) (from head symbol : ℕ) → slotAt area fro
 unfolding laidWords
 over-length area from head symbol r = simp length-set (cleared-length area (slotAt area from) (slotAt area head - slotAt area from) r)
 
-noted-ready : (area : List ℕ) (rule first after : ℕ) {moves : ℕ} → Ticks area moves → Ticks (notedWords area rule first after) moves
-unfolding notedWords
-noted-ready area rule first after t =
-    let at : ℕ = madeAtWord area + 3 * getD area 4 0 in
-    ticks-set _ 4 (getD area 4 0 + 1) (omega arith)
-    (ticks-set _ (at + 2) after (omega arith)
-    (ticks-set _ (at + 1) first (omega arith)
-    (ticks-set area at rule (omega arith) t)))
-
 module _ (area : List ℕ) (c from symbol : ℕ) (h : Reducible area c from) where
   inside : slotAt area from + (slotAt area (headOf area c) - slotAt area from) ≤ length area
   inside = omega (arith, h .top, h .room .room, h .some)
@@ -119,14 +91,3 @@ module _ (area : List ℕ) (c from symbol : ℕ) (h : Reducible area c from) whe
     made = rw (replaced-before 4 (omega arith), replaced-before 0 (omega arith)) (h .room .made);
     room = rw (replaced-before 1 (omega arith), replaced-before 0 (omega arith), replaced-length) (h .room .room);
   }
-
-  -- and the move counted
-  pub reduce-ready : (moves : ℕ) → Ticks area moves → (rule first after : ℕ) → Ticks (notedWords (replacedWords area c from symbol) rule first after) moves
-  reduce-ready moves t rule first after =
-      noted-ready (replacedWords area c from symbol) rule first after
-      (record {
-        long = rw replaced-length (t .long);
-        low = rw (replaced-before 2 (omega arith)) (t .low);
-        few = rw (replaced-before 3 (omega arith)) (t .few);
-        count = rw (replaced-before 2 (omega arith), replaced-before 3 (omega arith)) (t .count);
-      })

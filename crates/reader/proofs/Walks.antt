@@ -2,10 +2,10 @@
 -- Rests on ReadWords and StackWords.
 --
 -- Main definition: Down. Main statements: down-ends and down-under (what a turn asks), down-none (nothing is left); top-found, top-more;
--- mark-found, mark-more; nonterminal-top, below-nonterminal, below-terminal.
+-- mark-found, mark-more; nonterminal-top, below-start, below-here, below-ends.
 use Prim.Native.Nat.{ℕ, _+_, _<_, _≤_}
 use mathlib.Core.Path.{_≡_, refl, sym, ap, _∙_}
-use mathlib.Core.Bool.{true, false, true≢false, false≢true}
+use mathlib.Core.Bool.{Bool, true, false, true≢false, false≢true}
 use mathlib.Core.List.{List, [], _∷_}
 use native.Mathlib.Omega.{arith}
 use lib.Dec.{leb}
@@ -14,7 +14,7 @@ use Rattle.language.specs.Trees.{Span}
 use Rattle.machine.specs.Entries.{Entry, terminalOn, nonterminalOn, topTerminal, topIsNonterminal}
 use Rattle.area.specs.Layout.{stackSize, slotWord}
 use Rattle.reader.specs.declared.moves.Top.the-variants.{Terminal}
-use Rattle.reader.specs.ReadWords.{Holds, Stacked, startSlot, EndsBlock, topOf, belowMark, handleBelow, BelowMark}
+use Rattle.reader.specs.ReadWords.{Holds, Stacked, startSlot, EndsBlock, topOf, belowMark, handleBelow, NonterminalOnTop, BelowMark}
 use Rattle.reader.specs.StackWords.{stacked, slot-start, slot-ends, slot-symbol, slot-mark, slot-under}
 
 -- slots that hold something end in a block
@@ -85,21 +85,32 @@ module _ {area : List ℕ} {s e : ℕ} where
   nothing-top [] h l = refl
   nothing-top (x ∷ stack) h l = absurd (omega (arith, h .stands .stop))
 
-  pub nonterminal-ends : (stack : List (Entry Span)) → Holds area s e stack → topIsNonterminal stack ≡ true → EndsBlock area e
+  nonterminal-ends : (stack : List (Entry Span)) → Holds area s e stack → topIsNonterminal stack ≡ true → EndsBlock area e
   nonterminal-ends [] h b = absurd (false≢true b)
   nonterminal-ends (x ∷ stack) h b = slot-ends h
 
-  pub below-nonterminal : (stack : List (Entry Span)) → Holds area s e stack → topIsNonterminal stack ≡ true → startSlot area e ≡ s + stackSize (belowMark stack)
+  below-nonterminal : (stack : List (Entry Span)) → Holds area s e stack → topIsNonterminal stack ≡ true → startSlot area e ≡ s + stackSize (belowMark stack)
   below-nonterminal [] h b = absurd (false≢true b)
   below-nonterminal (terminalOn mark a v ∷ stack) h b = absurd (false≢true b)
   below-nonterminal (nonterminalOn k v ∷ stack) h b = slot-start h
 
-  pub below-terminal : (stack : List (Entry Span)) → Holds area s e stack → topIsNonterminal stack ≡ false → e ≡ s + stackSize (belowMark stack)
+  below-terminal : (stack : List (Entry Span)) → Holds area s e stack → topIsNonterminal stack ≡ false → e ≡ s + stackSize (belowMark stack)
   below-terminal [] h b = omega (arith, h .stands .stop)
   below-terminal (terminalOn mark a v ∷ stack) h b = omega (arith, h .stands .stop)
   below-terminal (nonterminalOn k v ∷ stack) h b = absurd (true≢false b)
 
 -- ---- the topmost mark
+
+-- what lies below it: the nonterminal just below goes with the handle
+module _ {area : List ℕ} {s e : ℕ} {on : Bool} (n : NonterminalOnTop area s e on) where
+  pub below-start : on ≡ true → BelowMark area s e (startSlot area e)
+  below-start t = record { found = λ stack h. below-nonterminal stack h (sym (n .found stack h) ∙ t) }
+
+  pub below-here : on ≡ false → BelowMark area s e e
+  below-here t = record { found = λ stack h. below-terminal stack h (sym (n .found stack h) ∙ t) }
+
+  pub below-ends : Stacked area s e → on ≡ true → EndsBlock area e
+  below-ends k t = nonterminal-ends (k .stack) (k .holds) (sym (n .found (k .stack) (k .holds)) ∙ t)
 
 module _ {area : List ℕ} {s at : ℕ} {stack : List (Entry Span)} (d : Down _ handleBelow area s at stack) (l : s < at) where
   pub mark-found : 0 < slotWord area (startSlot area at) 1 → {r : ℕ} → BelowMark area s (startSlot area at) r → r ≡ s + stackSize (handleBelow stack)

@@ -4,8 +4,8 @@
 -- Document 01, "Moves of a chunk"; docs/AREA.md gives the places.
 -- Rests on area's Layout.
 --
--- Main definitions: tickWords, pushWords, stickWords, acceptWords, joinWords, clearedWords, reduceWords; Stands (a stack's words stand
--- there); Ticks, Pushable, Stickable, Acceptable, Joinable, Laid, Roomy, Reducible (what each asks).
+-- Main definitions: tickWords, pushWords, stickWords, acceptWords, joinWords, clearedWords, reduceWords; putWords, endedWords, madeWords (a
+-- move not counted); Stands (a stack's words stand there); Ticks, Pushable, Stickable, Acceptable, Joinable, Laid, Roomy, Reducible (what each asks).
 use mathlib.Core.Path.{_≡_}
 use mathlib.Core.List.{List, _++_}
 use Prim.Native.Nat.{ℕ, zero, suc, _+_, _*_, _-_, _/_, _%_, _<_, _≤_}
@@ -182,9 +182,13 @@ pub record Roomy (area : List ℕ) : Type 0 where
 unfoldable pub replacedWords : List ℕ → ℕ → ℕ → ℕ → List ℕ
 replacedWords area c from symbol = set (overWords area from (headOf area c) symbol) (tableAt c 4) (marksOf area c - 1)
 
--- "replace it by the left side of the least such rule, b staying unread": slot s is place s-1
+-- .. and the reduction noted, the move not counted: slot s is place s-1
+abbrev pub madeWords : List ℕ → ℕ → ℕ → ℕ → ℕ → List ℕ
+madeWords area c from symbol rule = notedWords (replacedWords area c from symbol) rule (from - 1) (headOf area c - 1)
+
+-- "replace it by the left side of the least such rule, b staying unread"
 unfoldable pub reduceWords : List ℕ → ℕ → ℕ → ℕ → ℕ → List ℕ
-reduceWords area c from symbol rule = tickWords (notedWords (replacedWords area c from symbol) rule (from - 1) (headOf area c - 1))
+reduceWords area c from symbol rule = tickWords (madeWords area c from symbol rule)
 
 pub record Reducible (area : List ℕ) (c from : ℕ) : Type 0 where
   pub few : getD area 3 0 < 65535

@@ -3,7 +3,7 @@
 -- Document 01, "Moves of a chunk", rules 1 to 6; "next symbol b and topmost stack terminal a".
 -- Rests on OneMove, on table's Laid and area's WordsOfShape.
 --
--- Main definitions: Moved (the words that a move leaves), CallsFor (the move that leaves them, and can be made); Facing, Compared, Takes,
+-- Main definitions: Moved (the words that a move leaves), uncounted (before it is counted), CallsFor (the move that leaves them, and can be made); Facing, Compared, Takes,
 -- Taking (what is known on the way to it), HasLeft; liveIn, restsIn.
 -- Main statements: stuck-on-top, put-on-top, put-first, stuck-blank, put-marked, put-equal, ended, accepted, stuck-end,
 -- put-unmarked, replaced, stuck-rule; matrix-long, words-readable, has-left.
@@ -14,7 +14,7 @@ use mathlib.Core.Option.{Option, none, some}
 use Prim.Native.Nat.{ℕ, zero, suc, _+_, _*_, _/_, _%_, _<_, _≤_}
 use native.Mathlib.Omega.{arith}
 use lib.Dec.{eqb, ltb, leb}
-use lib.ListN.{length, getD}
+use lib.ListN.{length, getD, set}
 use Rattle.laws.specs.Least.{finds-none}
 use Rattle.laws.specs.Tests.{ltb-not, not-both, or-first, lt-ltb, ne-eqb, eq-eqb, le-leb, lt-leb, leb-true, all, upTo}
 use Rattle.laws.specs.Passed.{both}
@@ -31,7 +31,7 @@ use Rattle.machine.specs.Entries.{Entry, symbol, stackSymbols, topTerminal}
 use Rattle.machine.specs.Moves.{isWhole}
 use Rattle.machine.specs.TableOf.{relationFrom, relationAt, tableOf}
 use Rattle.machine.specs.Allowed.{HandleAbove}
-use Rattle.area.specs.Layout.{stackSize, marks, rowWord, slotWord}
+use Rattle.area.specs.Layout.{stackSize, marks, tableAt, rowWord, slotWord}
 use Rattle.area.specs.Shape.{byteFits, ruleB}
 use Rattle.area.specs.WordsOfShape.{PassThree, rule-a-exactly, left-sides-fit}
 use Rattle.area.specs.EndMarkOfShape.{grammar-in-shape}
@@ -41,7 +41,7 @@ use Rattle.reader.specs.declared.moves.Top.{Top}
 use Rattle.reader.specs.declared.moves.Top.the-variants.{Terminal, NoTerminal}
 use Rattle.reader.specs.declared.moves.Matched.{Matched}
 use Rattle.reader.specs.declared.moves.Matched.the-variants as matched
-use Rattle.reader.specs.MoveWords.{fromOf, headOf, endOf, marksOf, pushWords, stickWords, acceptWords, reduceWords, Pushable, Stickable, Acceptable, Reducible}
+use Rattle.reader.specs.MoveWords.{fromOf, headOf, endOf, marksOf, tickWords, putWords, pushWords, stickWords, endedWords, acceptWords, madeWords, reduceWords, Pushable, Stickable, Acceptable, Reducible}
 use Rattle.reader.specs.ReadWords.{topOf, TopIs, NonterminalOnTop, EndAndAxiom, HandleStarts}
 use Rattle.reader.specs.MatchWords.{handleWords, matchWords, matchedOf, Readable, Whole}
 use Rattle.reader.specs.Matches.{readable}
@@ -112,6 +112,20 @@ wordsAfter area c (Push mark) = pushWords area c mark
 wordsAfter area c (Stick status) = stickWords area c status
 wordsAfter area c Accept = acceptWords area c
 wordsAfter area c (Reduce from symbol rule) = reduceWords area c from symbol rule
+
+-- .. the move not counted
+abbrev pub uncounted : List ℕ → ℕ → Move → List ℕ
+uncounted area c (Push mark) = putWords area c mark
+uncounted area c (Stick status) = set area (tableAt c 0) status
+uncounted area c Accept = endedWords area c
+uncounted area c (Reduce from symbol rule) = madeWords area c from symbol rule
+
+pub counted : (area : List ℕ) (c : ℕ) (move : Move) → tickWords (uncounted area c move) ≡ wordsAfter area c move
+unfolding pushWords stickWords acceptWords reduceWords
+counted area c (Push mark) = refl
+counted area c (Stick status) = refl
+counted area c Accept = refl
+counted area c (Reduce from symbol rule) = refl
 
 abbrev pub Possible : List ℕ → ℕ → Move → Type 0
 Possible area c (Push mark) = Pushable area c mark

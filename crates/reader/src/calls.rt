@@ -16,7 +16,7 @@ ghost use Rattle.area.specs.Layout.{slotsAt};
 ghost use Rattle.reader.specs.OneMove.{Movable};
 ghost use Rattle.reader.specs.RunMoves.{ReadyIs, Runnable, RanWords};
 ghost use Rattle.reader.specs.JoinCalls.{RightIs};
-ghost use Rattle.reader.specs.Moved.{Moved, CallsFor, Facing, Compared, Takes, HasLeft, liveIn, restsBy, restsIn};
+ghost use Rattle.reader.specs.Moved.{Moved, uncounted, Possible, CallsFor, Facing, Takes, HasLeft, liveIn, restsBy, restsIn};
 ghost use Rattle.reader.specs.AtHand.{AtHand};
 
 // The move that a chunk's words call for: its next symbol put on its stack with this mark (0 or 1); stuck with 17 to 20; the # of the end
@@ -122,21 +122,7 @@ fn takes(words: &[u16], matrix: &[u8], area: &[u16], c: usize, hand: Hand) -> Mo
     Move::Stick(18)
 }
 
-// Rule 4: the topmost terminal a is equal to the next symbol b. For # over # it is the last move, or the chunk is stuck with 19.
-fn equals(words: &[u16], matrix: &[u8], area: &[u16], c: usize, hand: Hand, a: u16, b: u16) -> Move
-    requires { ⌜ Compared (now words) (now matrix) (now area) c a b 2 × AtHand (now area) c hand ⌝ }
-    ensures { λ r. ⌜ CallsFor (now (words .entry)) (now (matrix .entry)) (now (area .entry)) c r ⌝ }
-{
-    if (0 < a) | (0 < b) {
-        return Move::Push(0);
-    }
-    if moves::end_and_axiom(area, hand.from as usize, hand.head as usize, words[2]) {
-        return Move::Accept;
-    }
-    Move::Stick(19)
-}
-
-// Rules 3 to 6: a is the topmost terminal and b the next symbol.
+// Rules 3 to 6: a is the topmost terminal and b the next symbol. Where they are equal, # over # is the last move, or the chunk is stuck with 19.
 fn related(words: &[u16], matrix: &[u8], area: &[u16], c: usize, hand: Hand, a: u16, b: u16) -> Move
     requires { ⌜ Facing (now words) (now matrix) (now area) c a b × AtHand (now area) c hand ⌝ }
     ensures { λ r. ⌜ CallsFor (now (words .entry)) (now (matrix .entry)) (now (area .entry)) c r ⌝ }
@@ -146,7 +132,13 @@ fn related(words: &[u16], matrix: &[u8], area: &[u16], c: usize, hand: Hand, a: 
         return Move::Push(1);
     }
     if byte == 2 {
-        return equals(words, matrix, area, c, hand, a, b);
+        if (0 < a) | (0 < b) {
+            return Move::Push(0);
+        }
+        if moves::end_and_axiom(area, hand.from as usize, hand.head as usize, words[2]) {
+            return Move::Accept;
+        }
+        return Move::Stick(19);
     }
     if byte == 3 {
         return takes(words, matrix, area, c, hand);
@@ -174,6 +166,19 @@ fn next_move(words: &[u16], matrix: &[u8], area: &[u16], c: usize, hand: Hand) -
     Move::Push(0)
 }
 
+// This move of chunk c, not yet counted; what is at hand after it.
+fn moved(area: &mut [u16], c: usize, hand: Hand, next: Move) -> Hand
+    requires { ⌜ Possible (now area) c next × AtHand (now area) c hand ⌝ }
+    ensures { λ r. ⌜ (now (area .exit) ≡ uncounted (now (area .entry)) c next) × AtHand (now (area .exit)) c r × (r .moves ≡ hand .moves) ⌝ }
+{
+    match next {
+        Move::Push(mark) => moves::push(area, c, hand, mark),
+        Move::Stick(status) => moves::stick(area, c, hand, status),
+        Move::Accept => moves::accept(area, c, hand),
+        Move::Reduce(from, symbol, rule) => moves::reduce(area, c, hand, from, symbol, rule),
+    }
+}
+
 // One move of chunk c, a live one that is not at rest; what is at hand after it.
 pub fn make_move(words: &[u16], matrix: &[u8], area: &mut [u16], c: usize, hand: Hand) -> Hand
     requires { ⌜ Movable (now words) (now matrix) (now area) c × AtHand (now area) c hand ⌝ }
@@ -181,12 +186,9 @@ pub fn make_move(words: &[u16], matrix: &[u8], area: &mut [u16], c: usize, hand:
     ensures { λ r. ⌜ AtHand (now (area .exit)) c r ⌝ }
 {
     let next = next_move(words, matrix, area, c, hand);
-    match next {
-        Move::Push(mark) => moves::push(area, c, hand, mark),
-        Move::Stick(status) => moves::stick(area, c, hand, status),
-        Move::Accept => moves::accept(area, c, hand),
-        Move::Reduce(from, symbol, rule) => moves::reduce(area, c, hand, from, symbol, rule),
-    }
+    let mut after = moved(area, c, hand, next);
+    after.moves = moves::tick(area, after.moves);
+    after
 }
 
 // Moves of chunk c, a live one, until so many are made or it rests; how many were made.

@@ -3,14 +3,14 @@
 // What a run needs again at each move goes by value from move to move beside the area (`Hand`), which holds the same.
 ghost use mathlib.Core.Path.{_≡_};
 ghost use Prim.Native.Nat.{_+_, _*_, _-_, _≤_, _<_};
-ghost use lib.ListN.{length, getD};
+ghost use lib.ListN.{length, getD, set};
 ghost use Rattle.area.specs.Layout.{slotsAt, slotWord, tableAt, rowWord, movesIn};
-ghost use Rattle.reader.specs.MoveWords.{tickWords, pushWords, stickWords, acceptWords, unmarkWords, joinWords};
-ghost use Rattle.reader.specs.MoveWords.{startOf, clearedOne, clearedWords, laidWords, overWords, notedWords, reduceWords};
+ghost use Rattle.reader.specs.MoveWords.{tickWords, putWords, endedWords, unmarkWords, joinWords};
+ghost use Rattle.reader.specs.MoveWords.{startOf, clearedOne, clearedWords, overWords, notedWords, madeWords};
 ghost use Rattle.reader.specs.MoveWords.{Ticks, Pushable, Stickable, Acceptable, Joinable, Tagged, Laid, Roomy, Reducible};
 ghost use Rattle.reader.specs.MoveWords.{slotAt};
 ghost use Rattle.reader.specs.AtHand.{AtHand};
-ghost use Rattle.reader.specs.ReadWords.{Stacked, EndsBlock, startSlot, TopIs, NonterminalOnTop, EndAndAxiom, BelowMark, HandleStarts, nextOf, liveAfter};
+ghost use Rattle.reader.specs.ReadWords.{Stacked, EndsBlock, startSlot, TopIs, NonterminalOnTop, EndAndAxiom, HandleStarts, nextOf, liveAfter};
 ghost use Rattle.reader.specs.MatchWords.{Readable, Whole, handleWords, matchWords, matchedOf};
 ghost use Rattle.language.specs.Words.{countR, entry, bodyEnd};
 
@@ -39,7 +39,7 @@ pub fn row_word(area: &[u16], c: usize, k: usize) -> u16
 }
 
 // The count of moves, which stands in two words.
-pub fn moves_of(area: &[u16]) -> u32
+fn moves_of(area: &[u16]) -> u32
     requires { ⌜ 4 ≤ length (now area) ⌝ }
     ensures { λ r. ⌜ r ≡ movesIn (now (area .entry)) ⌝ }
 {
@@ -84,10 +84,10 @@ pub fn tick(area: &mut [u16], moves: u32) -> u32
     more
 }
 
-// Puts chunk c's next unread symbol on its stack, with this mark (0 or 1).
+// Puts chunk c's next unread symbol on its stack, with this mark (0 or 1); the move is not yet counted.
 pub fn push(area: &mut [u16], c: usize, mut hand: Hand, mark: u16) -> Hand
     requires { ⌜ Pushable (now area) c mark × AtHand (now area) c hand ⌝ }
-    ensures { λ r. ⌜ (now (area .exit) ≡ pushWords (now (area .entry)) c mark) × AtHand (now (area .exit)) c r ⌝ }
+    ensures { λ r. ⌜ (now (area .exit) ≡ putWords (now (area .entry)) c mark) × AtHand (now (area .exit)) c r × (r .moves ≡ hand .moves) ⌝ }
 {
     let line = 5 + 5 * c;
     let head = hand.head;
@@ -97,18 +97,16 @@ pub fn push(area: &mut [u16], c: usize, mut hand: Hand, mark: u16) -> Hand
     area[slot + 1] = mark;
     area[line + 2] = hand.head;
     area[line + 4] = hand.marks;
-    hand.moves = tick(area, hand.moves);
     hand
 }
 
-// Chunk c gets stuck with 17 to 20.
+// Chunk c gets stuck with 17 to 20; the move is not yet counted.
 pub fn stick(area: &mut [u16], c: usize, mut hand: Hand, status: u16) -> Hand
     requires { ⌜ Stickable (now area) c × AtHand (now area) c hand ⌝ }
-    ensures { λ r. ⌜ (now (area .exit) ≡ stickWords (now (area .entry)) c status) × AtHand (now (area .exit)) c r ⌝ }
+    ensures { λ r. ⌜ (now (area .exit) ≡ set (now (area .entry)) (tableAt c 0) status) × AtHand (now (area .exit)) c r × (r .moves ≡ hand .moves) ⌝ }
 {
     hand.status = status;
     area[5 + 5 * c + 0] = status;
-    hand.moves = tick(area, hand.moves);
     hand
 }
 
@@ -124,17 +122,16 @@ pub fn zero(area: &mut [u16], at: usize, count: usize)
     }
 }
 
-// Chunk c reads the # of the end, its stack unchanged.
+// Chunk c reads the # of the end, its stack unchanged; the move is not yet counted.
 pub fn accept(area: &mut [u16], c: usize, mut hand: Hand) -> Hand
     requires { ⌜ Acceptable (now area) c × AtHand (now area) c hand ⌝ }
-    ensures { λ r. ⌜ (now (area .exit) ≡ acceptWords (now (area .entry)) c) × AtHand (now (area .exit)) c r ⌝ }
+    ensures { λ r. ⌜ (now (area .exit) ≡ endedWords (now (area .entry)) c) × AtHand (now (area .exit)) c r × (r .moves ≡ hand .moves) ⌝ }
 {
     let end = hand.end - 1;
     let slot = slot_at(area, end as usize);
     zero(area, slot, 4);
     area[5 + 5 * c + 3] = end;
     hand.end = end;
-    hand.moves = tick(area, hand.moves);
     hand
 }
 
@@ -192,16 +189,6 @@ fn clear(area: &mut [u16], from: usize, to: usize)
     }
 }
 
-// Lays an unmarked symbol of `size` slots at word `at`.
-fn lay(area: &mut [u16], at: usize, symbol: u16, size: u16)
-    requires { ⌜ (0 < size) × (at + 4 * size ≤ length (now area)) ⌝ }
-    ensures { λ _. ⌜ now (area .exit) ≡ laidWords (now (area .entry)) at symbol size ⌝ }
-{
-    area[at] = symbol;
-    area[at + 2] = size;
-    area[at + 4 * (size as usize) - 1] = size;
-}
-
 // Adds a reduction to the `made` until now: rule, first place, place after the last.
 fn note(area: &mut [u16], made: u16, rule: u16, first: u16, after: u16)
     requires { ⌜ Roomy (now area) × (made ≡ getD (now area) 4 0) ⌝ }
@@ -216,29 +203,32 @@ fn note(area: &mut [u16], made: u16, rule: u16, first: u16, after: u16)
 }
 
 // Lays one unmarked symbol over the slots from `from` up to `head`, the symbols there cleared.
-fn lay_over(area: &mut [u16], from: u16, head: u16, symbol: u16)
+fn lay(area: &mut [u16], from: u16, head: u16, symbol: u16)
     requires { ⌜ (from < head) × Laid (now area) (slotAt (now area) from) (slotAt (now area) head) × (slotAt (now area) head ≤ length (now area)) ⌝ }
     ensures { λ _. ⌜ now (area .exit) ≡ overWords (now (area .entry)) from head symbol ⌝ }
 {
     let at = slot_at(area, from as usize);
     let to = slot_at(area, head as usize);
     clear(area, at, to);
-    lay(area, at, symbol, head - from);
+    let size = head - from;
+    area[at] = symbol;
+    area[at + 2] = size;
+    area[to - 1] = size;
 }
 
-// Replaces the handle of chunk c, its stack from slot `from` up, by the left side `symbol` of this rule.
+// Replaces the handle of chunk c, its stack from slot `from` up, by the left side `symbol` of this rule; the move is not
+// yet counted.
 pub fn reduce(area: &mut [u16], c: usize, mut hand: Hand, from: u16, symbol: u16, rule: u16) -> Hand
     requires { ⌜ Reducible (now area) c from × AtHand (now area) c hand ⌝ }
-    ensures { λ r. ⌜ (now (area .exit) ≡ reduceWords (now (area .entry)) c from symbol rule) × AtHand (now (area .exit)) c r ⌝ }
+    ensures { λ r. ⌜ (now (area .exit) ≡ madeWords (now (area .entry)) c from symbol rule) × AtHand (now (area .exit)) c r × (r .moves ≡ hand .moves) ⌝ }
 {
     let head = hand.head;
     let made = hand.reductions;
     hand.marks -= 1;
     hand.reductions = made + 1;
-    lay_over(area, from, head, symbol);
+    lay(area, from, head, symbol);
     area[5 + 5 * c + 4] = hand.marks;
     note(area, made, rule, from - 1, head - 1);
-    hand.moves = tick(area, hand.moves);
     hand
 }
 
@@ -289,18 +279,8 @@ pub fn top_terminal(area: &[u16], from: usize, head: usize) -> Top
     Top::NoTerminal
 }
 
-// Where the handle starts whose mark is at slot `at`: there, or at the nonterminal just below.
-fn below_mark(area: &[u16], from: usize, at: usize) -> usize
-    requires { ⌜ Stacked (now area) from at ⌝ }
-    ensures { λ r. ⌜ BelowMark (now (area .entry)) from at r ⌝ }
-{
-    if nonterminal_on_top(area, from, at) {
-        return block_start(area, at);
-    }
-    at
-}
-
-// The slot where the handle starts of the stack on the slots from `from` up to `head`; `from` where there is no mark.
+// The slot where the handle starts of the stack on the slots from `from` up to `head`: that of the topmost mark, or of the nonterminal just
+// below it; `from` where there is no mark.
 pub fn find_mark(area: &[u16], from: usize, head: usize) -> usize
     requires { ⌜ Stacked (now area) from head ⌝ }
     ensures { λ r. ⌜ HandleStarts (now (area .entry)) from head r ⌝ }
@@ -309,7 +289,10 @@ pub fn find_mark(area: &[u16], from: usize, head: usize) -> usize
     while from < at {
         at = block_start(area, at);
         if 0 < slot_word(area, at, 1) {
-            return below_mark(area, from, at);
+            if nonterminal_on_top(area, from, at) {
+                return block_start(area, at);
+            }
+            return at;
         }
     }
     from
@@ -376,12 +359,28 @@ fn body_end(words: &[u16], r: usize) -> usize
     words.len()
 }
 
-// The least rule whose right side is the handle on the slots from `from` up to `head`, its words compared with the symbols where they lie.
+// How many symbols lie on the slots from `from` up to `head`.
+fn symbols_on(area: &[u16], from: usize, head: usize) -> usize
+    requires { ⌜ Whole (now area) head from × (slotAt (now area) head ≤ length (now area)) ⌝ }
+    ensures { λ r. ⌜ (r ≡ length (handleWords (now (area .entry)) from head)) × (r ≤ head) ⌝ }
+{
+    let mut count = 0;
+    let mut s = from;
+    while s < head {
+        s += slot_word(area, s, 2) as usize;
+        count += 1;
+    }
+    count
+}
+
+// The least rule whose right side is the handle on the slots from `from` up to `head`: one with as many words as the handle has symbols, its
+// words compared with the symbols where they lie.
 pub fn match_rule(words: &[u16], area: &[u16], from: usize, head: usize) -> Matched
-    requires { ⌜ Readable (now words) × Whole (now area) head from × (slotAt (now area) head ≤ length (now area)) ⌝ }
+    requires { ⌜ Readable (now words) × Whole (now area) head from × (slotAt (now area) head ≤ length (now area)) × (from < head) ⌝ }
     ensures { λ r. ⌜ r ≡ matchedOf (matchWords (now (words .entry)) (handleWords (now (area .entry)) from head)) ⌝ }
 {
     let rules = words[3] as usize;
+    let count = symbols_on(area, from, head);
     let mut next: usize = 0;
     let found = 'outer: loop {
         let r = next;
@@ -391,19 +390,16 @@ pub fn match_rule(words: &[u16], area: &[u16], from: usize, head: usize) -> Matc
         next += 1;
         let end = body_end(words, r);
         let mut i = body_start(words, r) + 1;
+        if end != i + count {
+            continue 'outer;
+        }
         let mut s = from;
         while s < head {
-            if end <= i {
-                continue 'outer;
-            }
             if words[i] != slot_word(area, s, 0) {
                 continue 'outer;
             }
             s += slot_word(area, s, 2) as usize;
             i += 1;
-        }
-        if i < end {
-            continue 'outer;
         }
         break Matched::Rule(r as u16);
     };

@@ -1,14 +1,15 @@
 -- `calls::is_live` meets its contract.
+use native.Mathlib.Omega.{arith}
 use Rattle.reader.specs.Moved.{live-past, live-status}
 use borrow.Author.Needs.{needs}
 use Rattle.reader.proofs.calls.is_live.Statement.{statement}
 use Rattle.reader.proofs.calls.is_live.Tie as tie
 
 shared-slice-read-if1 : tie.Need-shared-slice-read-if1
-shared-slice-read-if1 c = search needs
+shared-slice-read-if1 c = omega arith
 
 cast-if1 : tie.Need-cast-if1
-cast-if1 c = search needs
+cast-if1 c = omega arith
 
 returns : tie.Need-returns
 returns c = let a = c .before .before .before .args in live-past (a .area .now) (a .c) (c .if1 .taken)

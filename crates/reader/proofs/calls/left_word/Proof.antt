@@ -1,6 +1,5 @@
 -- `calls::left_word` meets its contract: the word at the start of the rule's body.
 use native.Mathlib.Omega.{arith}
-use borrow.Author.Needs.{needs}
 use Rattle.reader.proofs.calls.left_word.Statement.{statement}
 use Rattle.reader.proofs.calls.left_word.Tie as tie
 
@@ -8,7 +7,7 @@ body-start-requires : tie.Need-body-start-requires
 body-start-requires c κs = c .before .pre .listed
 
 mul-result : tie.Need-mul-result
-mul-result c = search needs
+mul-result c = omega arith
 
 shared-slice-read-result : tie.Need-shared-slice-read-result
 shared-slice-read-result c = rw (c .before .body-start .ensures) (c .before .before .before .pre .there)

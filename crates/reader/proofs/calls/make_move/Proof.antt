@@ -1,77 +1,46 @@
--- `calls::make_move` meets its contract: the words call for a move, and that move is made.
-use borrow.Author.Needs.{needs}
+-- `calls::make_move` meets its contract: the words call for a move, that move is made, and it is counted.
+use native.Mathlib.Omega.{arith}
+use mathlib.Core.Path.{sym, ap, subst, _∙_}
+use mathlib.Core.List.{List}
+use Prim.Native.Nat.{ℕ}
+use Rattle.reader.specs.MoveWords.{tickWords}
+use Rattle.reader.specs.OneMove.{can-stick}
+use Rattle.reader.specs.Moved.{Moved, counted}
+use Rattle.reader.proofs.Hands.{hand-counted, still-few, hand-ticks}
 use Rattle.reader.proofs.calls.make_move.Statement.{statement}
 use Rattle.reader.proofs.calls.make_move.Tie as tie
 
 next-move-requires : tie.Need-next-move-requires
 next-move-requires c κs = c .before .before .before .before .pre
 
-enum-known-next : tie.Need-enum-known-next
-enum-known-next c = search needs
+moved-requires : tie.Need-moved-requires
+moved-requires c κs = (c .before .next-move .ensures .possible, c .before .before .before .before .before .before .pre .1)
 
-push-requires : tie.Need-push-requires
-push-requires c κs = let k = rw (c .before .before .next .given .1) at (c .before .before .before .before .next-move .ensures) in (k .possible, c .before .before .before .before .before .before .before .before .before .pre .1)
-
-enum-known-next-2 : tie.Need-enum-known-next-2
-enum-known-next-2 c = search needs
-
-stick-requires : tie.Need-stick-requires
-stick-requires c κs = let k = rw (c .before .before .next2 .given .1) at (c .before .before .before .before .next-move .ensures) in (k .possible, c .before .before .before .before .before .before .before .before .before .pre .1)
-
-enum-told : tie.Need-enum-told
-enum-told c = search needs
-
-accept-requires : tie.Need-accept-requires
-accept-requires c κs = let k = rw (c .before .enum-told .given .1) at (c .before .before .before .next-move .ensures) in (k .possible, c .before .before .before .before .before .before .before .before .pre .1)
-
-enum-known-next-3 : tie.Need-enum-known-next-3
-enum-known-next-3 c = search needs
-
-reduce-requires : tie.Need-reduce-requires
-reduce-requires c κs = let k = rw (c .before .before .next3 .given .1) at (c .before .before .before .before .next-move .ensures) in (k .possible, c .before .before .before .before .before .before .before .before .before .pre .1)
+tick-requires : tie.Need-tick-requires
+tick-requires c κs =
+    let s = can-stick (c .before .before .before .before .before .before .before .before .before .before .pre .0) in
+    let k = c .before .before .before .moved .ensures in
+    hand-counted (k .1) (omega (arith, s .room, c .before .before .before .moved .kept .0)) (omega (arith, c .before .slice-known2 .given 2)) (still-few (c .before .before .before .before .before .before .before .before .before .before .pre .1) (k .1) (k .2) (omega (arith, c .before .before .before .before .before .before .before .slice-known .given 2)) (s .few))
 
 same-length : tie.Need-same-length
-same-length c = search needs
+same-length c = c .before .before .tick .kept .0 ∙ c .before .before .before .before .before .before .moved .kept .0
 
 returns : tie.Need-returns
-returns c = let k = rw (c .before .before .before .before .before .next .given .1) at (c .before .before .before .before .before .before .before .next-move .ensures) in (rw (c .before .before .push .ensures .0) (k .leaves), c .before .before .push .ensures .1)
-
-same-length-2 : tie.Need-same-length-2
-same-length-2 c = search needs
-
-returns-2 : tie.Need-returns-2
-returns-2 c = let k = rw (c .before .before .before .before .before .next2 .given .1) at (c .before .before .before .before .before .before .before .next-move .ensures) in (rw (c .before .before .stick .ensures .0) (k .leaves), c .before .before .stick .ensures .1)
-
-same-length-3 : tie.Need-same-length-3
-same-length-3 c = search needs
-
-returns-3 : tie.Need-returns-3
-returns-3 c = let k = rw (c .before .before .before .before .enum-told .given .1) at (c .before .before .before .before .before .before .next-move .ensures) in (rw (c .before .before .accept .ensures .0) (k .leaves), c .before .before .accept .ensures .1)
-
-same-length-4 : tie.Need-same-length-4
-same-length-4 c = search needs
-
-returns-4 : tie.Need-returns-4
-returns-4 c = let k = rw (c .before .before .before .before .before .next3 .given .1) at (c .before .before .before .before .before .before .before .next-move .ensures) in (rw (c .before .before .reduce .ensures .0) (k .leaves), c .before .before .reduce .ensures .1)
+returns c =
+    let s = can-stick (c .before .before .before .before .before .before .before .before .before .before .before .before .before .pre .0) in
+    let k = c .before .before .before .before .before .before .moved .ensures in
+    let a = c .before .before .before .before .before .before .before .before .before .before .before .before .before .args in
+    rw (c .before .before .tick .ensures .1, c .before .before .tick .ensures .0) (
+      subst (λ (l : List ℕ). Moved (a .words .now) (a .matrix .now) (a .area .now) (a .c) l) (sym (ap tickWords (k .0) ∙ counted (a .area .now) (a .c) (c .before .before .before .before .before .before .before .before .next-move .result))) (c .before .before .before .before .before .before .before .before .next-move .ensures .leaves),
+      hand-ticks (k .1) (omega (arith, s .room, c .before .before .before .before .before .before .moved .kept .0)),
+    )
 
 pub make-move-spec : {M : Type 1} → statement M
 make-move-spec =
     tie.close
     (tie.spec
     next-move-requires
-    enum-known-next
-    push-requires
-    enum-known-next-2
-    stick-requires
-    enum-told
-    accept-requires
-    enum-known-next-3
-    reduce-requires
+    moved-requires
+    tick-requires
     same-length
-    returns
-    same-length-2
-    returns-2
-    same-length-3
-    returns-3
-    same-length-4
-    returns-4)
+    returns)

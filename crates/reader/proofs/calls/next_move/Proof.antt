@@ -7,10 +7,10 @@ use Rattle.reader.proofs.calls.next_move.Statement.{statement}
 use Rattle.reader.proofs.calls.next_move.Tie as tie
 
 cast-from : tie.Need-cast-from
-cast-from c = search needs
+cast-from c = omega arith
 
 cast-head : tie.Need-cast-head
-cast-head c = search needs
+cast-head c = omega arith
 
 slot-word-requires : tie.Need-slot-word-requires
 slot-word-requires c κs = let p = can-push (c .before .before .before .before .before .pre .0) 0 (omega arith) in omega (arith, p .slot, c .before .before .before .before .before .pre .1 .head)

@@ -1,16 +1,15 @@
--- `calls::related` meets its contract: the four relations.
+-- `calls::related` meets its contract: the four relations; of two equal ones, # over # is the row's end.
 use native.Mathlib.Omega.{arith}
-use Rattle.reader.specs.OneMove.{can-push, can-stick}
-use Rattle.reader.specs.Moved.{matrix-long, top-fits, next-fits, put-marked, stuck-blank, blank-other}
-use borrow.Author.Needs.{needs}
+use Rattle.reader.specs.OneMove.{can-push, can-stick, can-accept, can-read}
+use Rattle.reader.specs.Moved.{Compared, matrix-long, words-readable, top-fits, next-fits, put-marked, put-equal, ended, accepted, stuck-end, stuck-blank, blank-other}
 use Rattle.reader.proofs.calls.related.Statement.{statement}
 use Rattle.reader.proofs.calls.related.Tie as tie
 
 mul-byte : tie.Need-mul-byte
-mul-byte c = search needs
+mul-byte c = omega arith
 
 add-byte : tie.Need-add-byte
-add-byte c = search needs
+add-byte c = omega arith
 
 shared-slice-read-byte : tie.Need-shared-slice-read-byte
 shared-slice-read-byte c = let f = c .before .before .before .before .pre .0 in omega (arith, matrix-long (f .movable .held), top-fits f, next-fits f)
@@ -18,20 +17,45 @@ shared-slice-read-byte c = let f = c .before .before .before .before .pre .0 in 
 returns : tie.Need-returns
 returns c = let f = c .before .before .before .before .before .pre .0 in record { possible = can-push (f .movable) 1 (omega arith); leaves = put-marked f (c .if1 .taken) }
 
-equals-requires : tie.Need-equals-requires
-equals-requires c κs = (record { facing = c .before .before .before .before .before .before .pre .0; byte = c .if2 .taken }, c .before .before .before .before .before .before .pre .1)
-
 returns-2 : tie.Need-returns-2
-returns-2 c = c .equals .ensures
+returns-2 c = let f = c .before .before .before .before .before .before .before .pre .0 in record { possible = can-push (f .movable) 0 (omega arith); leaves = put-equal f (c .before .if2 .taken) (c .if3 .taken) }
 
-takes-requires : tie.Need-takes-requires
-takes-requires c κs = (record { a = c .before .before .before .before .before .before .before .args .a; b = c .before .before .before .before .before .before .before .args .b; compared = record { facing = c .before .before .before .before .before .before .before .pre .0; byte = c .if3 .taken } }, c .before .before .before .before .before .before .before .pre .1)
+cast-end-and-axiom : tie.Need-cast-end-and-axiom
+cast-end-and-axiom c = omega arith
+
+cast-end-and-axiom-2 : tie.Need-cast-end-and-axiom-2
+cast-end-and-axiom-2 c = omega arith
+
+shared-slice-read-end-and-axiom : tie.Need-shared-slice-read-end-and-axiom
+shared-slice-read-end-and-axiom c = omega (arith, words-readable (c .before .before .before .before .before .before .before .before .before .before .pre .0 .movable .held) .long)
+
+end-and-axiom-requires : tie.Need-end-and-axiom-requires
+end-and-axiom-requires c κs = rw (c .before .before .before .before .before .before .before .before .before .before .pre .1 .from, c .before .before .before .before .before .before .before .before .before .before .pre .1 .head) (can-read (c .before .before .before .before .before .before .before .before .before .before .pre .0 .movable) .stacked)
 
 returns-3 : tie.Need-returns-3
-returns-3 c = c .takes .ensures
+returns-3 c =
+    let h = c .before .before .before .before .before .before .before .before .before .before .before .before .pre .1 in
+    let f = c .before .before .before .before .before .before .before .before .before .before .before .before .pre .0 in
+    let k : Compared (c .before .before .before .before .before .before .before .before .before .before .before .before .args .words .now) (c .before .before .before .before .before .before .before .before .before .before .before .before .args .matrix .now) (c .before .before .before .before .before .before .before .before .before .before .before .before .args .area .now) (c .before .before .before .before .before .before .before .before .before .before .before .before .args .c) (c .before .before .before .before .before .before .before .before .before .before .before .before .args .a) (c .before .before .before .before .before .before .before .before .before .before .before .before .args .b) 2 = record { facing = f; byte = c .before .before .before .before .before .before .if2 .taken } in
+    let whole = rw (c .if4 .taken, h .from, h .head) at (c .before .end-and-axiom .ensures) in
+    record { possible = can-accept (f .movable); leaves = accepted (ended k (c .before .before .before .before .before .if3 .left)) whole }
 
 returns-4 : tie.Need-returns-4
-returns-4 c = let f = c .before .before .before .before .before .before .before .pre .0 in record { possible = can-stick (f .movable); leaves = stuck-blank f (blank-other _ (c .before .before .if1 .left) (c .before .if2 .left) (c .if3 .left)) }
+returns-4 c =
+    let h = c .before .before .before .before .before .before .before .before .before .before .before .before .pre .1 in
+    let f = c .before .before .before .before .before .before .before .before .before .before .before .before .pre .0 in
+    let k : Compared (c .before .before .before .before .before .before .before .before .before .before .before .before .args .words .now) (c .before .before .before .before .before .before .before .before .before .before .before .before .args .matrix .now) (c .before .before .before .before .before .before .before .before .before .before .before .before .args .area .now) (c .before .before .before .before .before .before .before .before .before .before .before .before .args .c) (c .before .before .before .before .before .before .before .before .before .before .before .before .args .a) (c .before .before .before .before .before .before .before .before .before .before .before .before .args .b) 2 = record { facing = f; byte = c .before .before .before .before .before .before .if2 .taken } in
+    let none = rw (c .if4 .left, h .from, h .head) at (c .before .end-and-axiom .ensures) in
+    record { possible = can-stick (f .movable); leaves = stuck-end (ended k (c .before .before .before .before .before .if3 .left)) none }
+
+takes-requires : tie.Need-takes-requires
+takes-requires c κs = (record { a = c .before .before .before .before .before .before .before .args .a; b = c .before .before .before .before .before .before .before .args .b; compared = record { facing = c .before .before .before .before .before .before .before .pre .0; byte = c .if5 .taken } }, c .before .before .before .before .before .before .before .pre .1)
+
+returns-5 : tie.Need-returns-5
+returns-5 c = c .takes .ensures
+
+returns-6 : tie.Need-returns-6
+returns-6 c = let f = c .before .before .before .before .before .before .before .pre .0 in record { possible = can-stick (f .movable); leaves = stuck-blank f (blank-other _ (c .before .before .if1 .left) (c .before .if2 .left) (c .if5 .left)) }
 
 pub related-spec : {M : Type 1} → statement M
 related-spec =
@@ -41,8 +65,13 @@ related-spec =
     add-byte
     shared-slice-read-byte
     returns
-    equals-requires
     returns-2
-    takes-requires
+    cast-end-and-axiom
+    cast-end-and-axiom-2
+    shared-slice-read-end-and-axiom
+    end-and-axiom-requires
     returns-3
-    returns-4)
+    returns-4
+    takes-requires
+    returns-5
+    returns-6)

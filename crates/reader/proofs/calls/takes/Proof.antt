@@ -13,10 +13,10 @@ returns c =
     record { possible = can-push (t .compared .facing .movable) 0 (omega arith); leaves = put-unmarked t (sym (c .before .before .before .before .before .pre .1 .marks) ∙ c .if1 .taken) }
 
 cast-head : tie.Need-cast-head
-cast-head c = search needs
+cast-head c = omega arith
 
 cast-find-mark : tie.Need-cast-find-mark
-cast-find-mark c = search needs
+cast-find-mark c = omega arith
 
 find-mark-requires : tie.Need-find-mark-requires
 find-mark-requires c κs = rw (c .before .before .before .before .before .before .before .pre .1 .from, c .before .before .before .before .before .before .before .pre .1 .head) (can-read (c .before .before .before .before .before .before .before .pre .0 .compared .facing .movable) .stacked)
@@ -27,7 +27,7 @@ match-rule-requires c κs =
     let t : Taking (c .before .before .before .before .before .before .before .before .args .words .now) (c .before .before .before .before .before .before .before .before .args .matrix .now) (c .before .before .before .before .before .before .before .before .args .area .now) (c .before .before .before .before .before .before .before .before .args .c) = record { takes-over = c .before .before .before .before .before .before .before .before .pre .0; marked = omega (arith, c .before .before .before .if1 .left, h .marks) } in
     let m = t .takes-over .compared .facing .movable in
     let start = rw (h .from, h .head) at (c .find-mark .ensures) in
-    rw (h .head) (words-readable (m .held), handle-there t _ start, can-read m .stacked .room)
+    rw (h .head) (words-readable (m .held), handle-there t _ start, can-read m .stacked .room, starts-below t _ start)
 
 enum-known-r : tie.Need-enum-known-r
 enum-known-r c = search needs

@@ -9,13 +9,13 @@ slot-at-requires : tie.Need-slot-at-requires
 slot-at-requires c κs = search needs
 
 sub-result : tie.Need-sub-result
-sub-result c = search needs
+sub-result c = omega arith
 
 mul-result : tie.Need-mul-result
-mul-result c = search needs
+mul-result c = omega arith
 
 shared-slice-read-result : tie.Need-shared-slice-read-result
-shared-slice-read-result c = search needs
+shared-slice-read-result c = omega arith
 
 cast-result : tie.Need-cast-result
 cast-result c = omega (arith, c .shared-slice-known2 .given (c .before .slot-at .result - 1))

@@ -8,16 +8,16 @@ use Rattle.reader.proofs.moves.body_end.Statement.{statement}
 use Rattle.reader.proofs.moves.body_end.Tie as tie
 
 add-if1 : tie.Need-add-if1
-add-if1 c = search needs
+add-if1 c = omega arith
 
 shared-slice-read-if1 : tie.Need-shared-slice-read-if1
-shared-slice-read-if1 c = search needs
+shared-slice-read-if1 c = omega arith
 
 cast-if1 : tie.Need-cast-if1
-cast-if1 c = search needs
+cast-if1 c = omega arith
 
 add-body-start : tie.Need-add-body-start
-add-body-start c = search needs
+add-body-start c = omega arith
 
 body-start-requires : tie.Need-body-start-requires
 body-start-requires c κs = search needs

@@ -8,52 +8,52 @@ use Rattle.reader.proofs.moves.clear_one.Statement.{statement}
 use Rattle.reader.proofs.moves.clear_one.Tie as tie
 
 sub-size : tie.Need-sub-size
-sub-size c = search needs
+sub-size c = omega arith
 
 mul-size : tie.Need-mul-size
-mul-size c = search needs
+mul-size c = omega arith
 
 slice-read-size : tie.Need-slice-read-size
-slice-read-size c = search needs
+slice-read-size c = omega arith
 
 cast-size : tie.Need-cast-size
-cast-size c = search needs
+cast-size c = omega arith
 
 mul-start : tie.Need-mul-start
-mul-start c = search needs
+mul-start c = omega arith
 
 sub-start : tie.Need-sub-start
-sub-start c = search needs
+sub-start c = omega arith
 
 sub-area : tie.Need-sub-area
-sub-area c = search needs
+sub-area c = omega arith
 
 mul-area : tie.Need-mul-area
-mul-area c = search needs
+mul-area c = omega arith
 
 slice-write-area : tie.Need-slice-write-area
-slice-write-area c = search needs
+slice-write-area c = omega arith
 
 mul-area-2 : tie.Need-mul-area-2
-mul-area-2 c = search needs
+mul-area-2 c = omega arith
 
 slice-write-area-2 : tie.Need-slice-write-area-2
 slice-write-area-2 c = simp length-set (omega arith)
 
 add-area : tie.Need-add-area
-add-area c = search needs
+add-area c = omega arith
 
 mul-area-3 : tie.Need-mul-area-3
-mul-area-3 c = search needs
+mul-area-3 c = omega arith
 
 slice-write-area-3 : tie.Need-slice-write-area-3
 slice-write-area-3 c = simp length-set (omega arith)
 
 add-area-2 : tie.Need-add-area-2
-add-area-2 c = search needs
+add-area-2 c = omega arith
 
 mul-area-4 : tie.Need-mul-area-4
-mul-area-4 c = search needs
+mul-area-4 c = omega arith
 
 slice-write-area-4 : tie.Need-slice-write-area-4
 slice-write-area-4 c = simp length-set (omega arith)

@@ -2,7 +2,6 @@
 use Rattle.reader.proofs.WholeStack.{not-empty, not-one, end-and-axiom}
 use Rattle.reader.proofs.Walks.{held-ends, held-under}
 use native.Mathlib.Omega.{arith}
-use borrow.Author.Needs.{needs}
 use Rattle.reader.proofs.moves.end_and_axiom.Statement.{statement}
 use Rattle.reader.proofs.moves.end_and_axiom.Tie as tie
 
@@ -28,7 +27,7 @@ slot-word-requires c κs =
     omega (arith, c .before .before .block-start .ensures, e .some, e .fits, e .within)
 
 cast-word : tie.Need-cast-word
-cast-word c = search needs
+cast-word c = omega arith
 
 slot-word-requires-2 : tie.Need-slot-word-requires-2
 slot-word-requires-2 c κs =
@@ -37,7 +36,7 @@ slot-word-requires-2 c κs =
     omega (arith, c .before .before .before .block-start .ensures, c .before .block-start2 .ensures, e .some, e .fits, e .within)
 
 add-result : tie.Need-add-result
-add-result c = search needs
+add-result c = omega arith
 
 returns-3 : tie.Need-returns-3
 returns-3 c =

@@ -1,6 +1,6 @@
 -- `moves::find_mark` meets its contract: the loop's invariant: whatever stack stands there, its topmost mark is in what is left (`Down`). The measure is `at`.
-use Rattle.reader.proofs.Walks.{Down, down-begins, down-none, down-ends, down-under, mark-found, mark-more}
-use Rattle.reader.specs.ReadWords.{Holds, handleBelow}
+use Rattle.reader.proofs.Walks.{Down, down-begins, down-none, down-ends, down-under, below-start, below-here, below-ends, mark-found, mark-more}
+use Rattle.reader.specs.ReadWords.{Holds, Stacked, handleBelow}
 use Rattle.machine.specs.Entries.{Entry}
 use Rattle.language.specs.Trees.{Span}
 use mathlib.Core.List.{List}
@@ -25,17 +25,30 @@ slot-word-requires c κs =
     let e = down-ends _ handleBelow (c .before .before .loop .inv (c .before .before .before .before .pre .stack) (c .before .before .before .before .pre .holds)) (c .before .loop-test .taken) in
     omega (arith, c .block-start .ensures, e .some, e .fits, e .within)
 
-below-mark-requires : tie.Need-below-mark-requires Inv-loop μ-loop
-below-mark-requires c κs =
+nonterminal-on-top-requires : tie.Need-nonterminal-on-top-requires Inv-loop μ-loop
+nonterminal-on-top-requires c κs =
     let p = c .before .before .before .before .before .before .pre in
     rw (c .before .before .block-start .ensures) (down-under _ handleBelow (c .before .before .before .before .loop .inv (p .stack) (p .holds)) (c .before .before .before .loop-test .taken))
 
+block-start-requires-2 : tie.Need-block-start-requires-2 Inv-loop μ-loop
+block-start-requires-2 c κs =
+    let p = c .before .before .before .before .before .before .before .before .pre in
+    let under : Stacked (c .before .before .before .before .before .before .before .before .args .area .now) (c .before .before .before .before .before .before .before .before .args .from) (c .before .before .before .before .block-start .result) = rw (c .before .before .before .before .block-start .ensures) (down-under _ handleBelow (c .before .before .before .before .before .before .loop .inv (p .stack) (p .holds)) (c .before .before .before .before .before .loop-test .taken)) in
+    below-ends (c .before .nonterminal-on-top .ensures) under (c .if2 .taken)
+
 returns : tie.Need-returns Inv-loop μ-loop
 returns c =
-    let e = c .before .before .before .block-start .ensures in
-    let w = rw (c .before .before .slot-word .ensures, e) at (c .before .if1 .taken) in
-    let b = rw e at (c .below-mark .ensures) in
-    record { found = λ stack h. mark-found (c .before .before .before .before .before .loop .inv stack h) (c .before .before .before .before .loop-test .taken) w b }
+    let e = c .before .before .before .before .before .block-start .ensures in
+    let w = rw (c .before .before .before .before .slot-word .ensures, e) at (c .before .before .before .if1 .taken) in
+    let b = rw e at (below-start (c .before .before .nonterminal-on-top .ensures) (c .before .if2 .taken)) in
+    record { found = λ stack h. rw (c .block-start2 .ensures, e) (mark-found (c .before .before .before .before .before .before .before .loop .inv stack h) (c .before .before .before .before .before .before .loop-test .taken) w b) }
+
+returns-2 : tie.Need-returns-2 Inv-loop μ-loop
+returns-2 c =
+    let e = c .before .before .before .before .block-start .ensures in
+    let w = rw (c .before .before .before .slot-word .ensures, e) at (c .before .before .if1 .taken) in
+    let b = rw e at (below-here (c .before .nonterminal-on-top .ensures) (c .if2 .left)) in
+    record { found = λ stack h. rw e (mark-found (c .before .before .before .before .before .before .loop .inv stack h) (c .before .before .before .before .before .loop-test .taken) w b) }
 
 loop-less : tie.Need-loop-less Inv-loop μ-loop
 loop-less c =
@@ -48,8 +61,8 @@ loop-again c =
     let w = rw (c .before .slot-word .ensures, e) at (c .if1 .left) in
     λ stack h. rw e (mark-more (c .before .before .before .before .loop .inv stack h) (c .before .before .before .loop-test .taken) w)
 
-returns-2 : tie.Need-returns-2 Inv-loop μ-loop
-returns-2 c = record { found = λ stack h. rw (down-none _ handleBelow (c .before .loop .inv stack h) (c .loop-test .left)) (omega arith) }
+returns-3 : tie.Need-returns-3 Inv-loop μ-loop
+returns-3 c = record { found = λ stack h. rw (down-none _ handleBelow (c .before .loop .inv stack h) (c .loop-test .left)) (omega arith) }
 
 pub find-mark-spec : {M : Type 1} → statement M
 find-mark-spec =
@@ -60,8 +73,10 @@ find-mark-spec =
     loop-holds
     block-start-requires
     slot-word-requires
-    below-mark-requires
+    nonterminal-on-top-requires
+    block-start-requires-2
     returns
+    returns-2
     loop-less
     loop-again
-    returns-2)
+    returns-3)

@@ -1,4 +1,5 @@
 -- `moves::hand_of` meets its contract: each field is the word read.
+use native.Mathlib.Omega.{arith}
 use mathlib.Core.Path.{refl}
 use borrow.Author.Needs.{needs}
 use Rattle.reader.proofs.moves.hand_of.Statement.{statement}
@@ -20,7 +21,7 @@ row-word-requires-5 : tie.Need-row-word-requires-5
 row-word-requires-5 c κs = search needs
 
 shared-slice-read-t9 : tie.Need-shared-slice-read-t9
-shared-slice-read-t9 c = search needs
+shared-slice-read-t9 c = omega arith
 
 moves-of-requires : tie.Need-moves-of-requires
 moves-of-requires c κs = search needs

@@ -8,7 +8,6 @@ use Rattle.reader.specs.MoveWords.{tickWords, joinWords, Ticks}
 use Rattle.reader.proofs.Ready.{one-ready}
 use Rattle.reader.proofs.Hands.{hand-counted}
 use Rattle.reader.proofs.Zeroing.{one-zeroed}
-use borrow.Author.Needs.{needs}
 use Rattle.reader.proofs.moves.join_chunks.Statement.{statement}
 use Rattle.reader.proofs.moves.join_chunks.Tie as tie
 
@@ -16,43 +15,43 @@ hand-of-requires : tie.Need-hand-of-requires
 hand-of-requires c κs = (c .before .before .pre .right, omega (arith, c .before .before .pre .room))
 
 cast-slot-at : tie.Need-cast-slot-at
-cast-slot-at c = search needs
+cast-slot-at c = omega arith
 
 slot-at-requires : tie.Need-slot-at-requires
 slot-at-requires c κs = omega (arith, c .before .hand-of .ensures .from, c .before .before .before .before .pre .from, c .before .before .before .before .pre .room)
 
 add-unmark : tie.Need-add-unmark
-add-unmark c = search needs
+add-unmark c = omega arith
 
 sub-unmark : tie.Need-sub-unmark
 sub-unmark c = omega (arith, c .before .before .before .hand-of .ensures .from, c .before .before .before .hand-of .ensures .head, c .before .before .before .before .before .before .pre .from)
 
 cast-unmark : tie.Need-cast-unmark
-cast-unmark c = search needs
+cast-unmark c = omega arith
 
 unmark-requires : tie.Need-unmark-requires
 unmark-requires c κs = omega (arith, c .before .slot-at .ensures, c .before .before .before .hand-of .ensures .from, c .before .before .before .hand-of .ensures .head, c .before .before .before .before .before .before .pre .from, c .before .before .before .before .before .before .pre .room)
 
 mul-area : tie.Need-mul-area
-mul-area c = search needs
+mul-area c = omega arith
 
 add-area : tie.Need-add-area
-add-area c = search needs
+add-area c = omega arith
 
 add-area-2 : tie.Need-add-area-2
-add-area-2 c = search needs
+add-area-2 c = omega arith
 
 mul-area-2 : tie.Need-mul-area-2
-mul-area-2 c = search needs
+mul-area-2 c = omega arith
 
 slice-write-area : tie.Need-slice-write-area
 slice-write-area c = omega (arith, c .before .before .unmark .kept .0, c .before .before .before .before .before .before .before .before .before .pre .left, c .before .before .before .before .before .before .before .before .before .pre .room)
 
 mul-zero : tie.Need-mul-zero
-mul-zero c = search needs
+mul-zero c = omega arith
 
 add-zero : tie.Need-add-zero
-add-zero c = search needs
+add-zero c = omega arith
 
 zero-requires : tie.Need-zero-requires
 zero-requires c κs = simp length-set (omega (arith, c .before .before .before .unmark .kept .0, c .before .before .before .before .before .before .before .before .before .before .pre .right, c .before .before .before .before .before .before .before .before .before .before .pre .room))

@@ -7,43 +7,43 @@ use Rattle.reader.proofs.moves.note.Statement.{statement}
 use Rattle.reader.proofs.moves.note.Tie as tie
 
 slice-reshared-read-slot-at : tie.Need-slice-reshared-read-slot-at
-slice-reshared-read-slot-at c = search needs
+slice-reshared-read-slot-at c = omega arith
 
 cast-slot-at : tie.Need-cast-slot-at
-cast-slot-at c = search needs
+cast-slot-at c = omega arith
 
 add-slot-at : tie.Need-add-slot-at
-add-slot-at c = search needs
+add-slot-at c = omega arith
 
 slot-at-requires : tie.Need-slot-at-requires
 slot-at-requires c κs = search needs
 
 mul-at : tie.Need-mul-at
-mul-at c = search needs
+mul-at c = omega arith
 
 add-at : tie.Need-add-at
-add-at c = search needs
+add-at c = omega arith
 
 mul-area : tie.Need-mul-area
-mul-area c = search needs
+mul-area c = omega arith
 
 slice-write-area : tie.Need-slice-write-area
-slice-write-area c = search needs
+slice-write-area c = omega arith
 
 add-area : tie.Need-add-area
-add-area c = search needs
+add-area c = omega arith
 
 mul-area-2 : tie.Need-mul-area-2
-mul-area-2 c = search needs
+mul-area-2 c = omega arith
 
 slice-write-area-2 : tie.Need-slice-write-area-2
 slice-write-area-2 c = simp length-set (omega arith)
 
 add-area-2 : tie.Need-add-area-2
-add-area-2 c = search needs
+add-area-2 c = omega arith
 
 mul-area-3 : tie.Need-mul-area-3
-mul-area-3 c = search needs
+mul-area-3 c = omega arith
 
 slice-write-area-3 : tie.Need-slice-write-area-3
 slice-write-area-3 c = simp length-set (omega arith)

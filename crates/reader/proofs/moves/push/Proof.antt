@@ -1,29 +1,28 @@
--- `moves::push` meets its contract: the three stores are `putWords`, and the move is counted.
+-- `moves::push` meets its contract: the three stores are `putWords`.
 use native.Mathlib.Omega.{arith}
 use lib.ListN.{length-set}
-use mathlib.Core.Path.{_∙_}
-use Rattle.reader.proofs.Hands.{put-ticks, hand-pushed}
-use borrow.Author.Needs.{needs}
+use mathlib.Core.Path.{refl}
+use Rattle.reader.proofs.Hands.{hand-pushed}
 use Rattle.reader.proofs.moves.push.Statement.{statement}
 use Rattle.reader.proofs.moves.push.Tie as tie
 
 mul-line : tie.Need-mul-line
-mul-line c = search needs
+mul-line c = omega arith
 
 add-line : tie.Need-add-line
-add-line c = search needs
+add-line c = omega arith
 
 cast-slot-at : tie.Need-cast-slot-at
-cast-slot-at c = search needs
+cast-slot-at c = omega arith
 
 slot-at-requires : tie.Need-slot-at-requires
 slot-at-requires c κs = omega (arith, c .before .before .pre .0 .slot, c .before .before .pre .1 .head)
 
 add-hand : tie.Need-add-hand
-add-hand c = search needs
+add-hand c = omega arith
 
 mul-hand : tie.Need-mul-hand
-mul-hand c = search needs
+mul-hand c = omega arith
 
 slice-read-hand : tie.Need-slice-read-hand
 slice-read-hand c = omega (arith, c .before .slot-at .ensures, c .before .before .before .before .pre .0 .slot, c .before .before .before .before .pre .1 .head)
@@ -35,40 +34,37 @@ add-hand-3 : tie.Need-add-hand-3
 add-hand-3 c = omega (arith, c .before .before .before .before .before .pre .0 .marks, c .before .before .before .before .before .pre .1 .marks)
 
 add-area : tie.Need-add-area
-add-area c = search needs
+add-area c = omega arith
 
 mul-area : tie.Need-mul-area
-mul-area c = search needs
+mul-area c = omega arith
 
 slice-write-area : tie.Need-slice-write-area
 slice-write-area c = omega (arith, c .before .before .slot-at .ensures, c .before .before .before .before .before .pre .0 .slot, c .before .before .before .before .before .pre .1 .head)
 
 add-area-2 : tie.Need-add-area-2
-add-area-2 c = search needs
+add-area-2 c = omega arith
 
 mul-area-2 : tie.Need-mul-area-2
-mul-area-2 c = search needs
+mul-area-2 c = omega arith
 
 slice-write-area-2 : tie.Need-slice-write-area-2
 slice-write-area-2 c = simp length-set (omega (arith, c .before .before .before .before .before .pre .0 .chunk, c .before .before .before .before .before .pre .0 .slot))
 
 add-area-3 : tie.Need-add-area-3
-add-area-3 c = search needs
+add-area-3 c = omega arith
 
 mul-area-3 : tie.Need-mul-area-3
-mul-area-3 c = search needs
+mul-area-3 c = omega arith
 
 slice-write-area-3 : tie.Need-slice-write-area-3
 slice-write-area-3 c = simp length-set (omega (arith, c .before .before .before .before .before .pre .0 .chunk, c .before .before .before .before .before .pre .0 .slot))
 
-tick-requires : tie.Need-tick-requires
-tick-requires c κs = rw (c .before .before .before .slot-at .ensures) (put-ticks _ _ _ _ (c .before .before .before .before .before .before .pre) (omega (arith, c .before .before .before .before .before .slice-known .given 2)))
-
 same-length : tie.Need-same-length
-same-length c = c .before .before .tick .kept .0 ∙ simp length-set
+same-length c = simp length-set
 
 returns : tie.Need-returns
-returns c = rw (c .before .before .tick .ensures .1, c .before .before .tick .ensures .0, c .before .before .before .before .before .before .slot-at .ensures) (hand-pushed _ _ _ _ (c .before .before .before .before .before .before .before .before .before .pre))
+returns c = let k = hand-pushed _ _ _ _ (c .before .before .before .before .before .pre) in rw (c .before .before .slot-at .ensures) (k .0, k .1, refl)
 
 pub push-spec : {M : Type 1} → statement M
 push-spec =
@@ -92,6 +88,5 @@ push-spec =
     add-area-3
     mul-area-3
     slice-write-area-3
-    tick-requires
     same-length
     returns)

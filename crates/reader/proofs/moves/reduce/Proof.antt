@@ -1,9 +1,8 @@
--- `moves::reduce` meets its contract: the block laid over the handle and the mark dropped are `replacedWords`; the reduction is noted, and the move counted.
+-- `moves::reduce` meets its contract: the block laid over the handle and the mark dropped are `replacedWords`, and the reduction is noted.
 use native.Mathlib.Omega.{arith}
 use lib.ListN.{length-set}
-use mathlib.Core.Path.{_∙_}
-use Rattle.reader.proofs.Hands.{over-roomy, over-ticks, hand-reduced}
-use borrow.Author.Needs.{needs}
+use mathlib.Core.Path.{refl, _∙_}
+use Rattle.reader.proofs.Hands.{over-roomy, hand-reduced}
 use Rattle.reader.proofs.moves.reduce.Statement.{statement}
 use Rattle.reader.proofs.moves.reduce.Tie as tie
 
@@ -13,23 +12,23 @@ sub-hand c = omega (arith, c .before .before .pre .0 .marked, c .before .before 
 add-hand : tie.Need-add-hand
 add-hand c = omega (arith, c .before .before .pre .0 .room .made, c .before .before .pre .1 .reductions, c .before .slice-known .given 0)
 
-lay-over-requires : tie.Need-lay-over-requires
-lay-over-requires c κs = rw (c .before .before .before .pre .1 .head) (c .before .before .before .pre .0 .some, c .before .before .before .pre .0 .handle, omega (arith, c .before .before .before .pre .0 .top, c .before .before .before .pre .0 .room .room))
+lay-requires : tie.Need-lay-requires
+lay-requires c κs = rw (c .before .before .before .pre .1 .head) (c .before .before .before .pre .0 .some, c .before .before .before .pre .0 .handle, omega (arith, c .before .before .before .pre .0 .top, c .before .before .before .pre .0 .room .room))
 
 mul-area : tie.Need-mul-area
-mul-area c = search needs
+mul-area c = omega arith
 
 add-area : tie.Need-add-area
-add-area c = search needs
+add-area c = omega arith
 
 add-area-2 : tie.Need-add-area-2
-add-area-2 c = search needs
+add-area-2 c = omega arith
 
 mul-area-2 : tie.Need-mul-area-2
-mul-area-2 c = search needs
+mul-area-2 c = omega arith
 
 slice-write-area : tie.Need-slice-write-area
-slice-write-area c = omega (arith, c .before .before .lay-over .kept .0, c .before .before .before .before .before .before .pre .0 .chunk, c .before .before .before .before .before .before .pre .0 .room .room)
+slice-write-area c = omega (arith, c .before .before .lay .kept .0, c .before .before .before .before .before .before .pre .0 .chunk, c .before .before .before .before .before .before .pre .0 .room .room)
 
 sub-note : tie.Need-sub-note
 sub-note c = omega (arith, c .before .before .before .before .before .before .before .pre .0 .low)
@@ -38,16 +37,13 @@ sub-note-2 : tie.Need-sub-note-2
 sub-note-2 c = omega (arith, c .before .before .before .before .before .before .before .pre .0 .some, c .before .before .before .before .before .before .before .pre .1 .head)
 
 note-requires : tie.Need-note-requires
-note-requires c κs = rw (c .before .before .before .lay-over .ensures) (over-roomy _ _ _ _ _ (c .before .before .before .before .before .before .before .pre))
-
-tick-requires : tie.Need-tick-requires
-tick-requires c κs = rw (c .before .before .before .note .ensures, c .before .before .before .before .before .before .before .lay-over .ensures) (over-ticks _ _ _ _ _ (c .before .before .before .before .before .before .before .before .before .before .before .pre) _ _ _ (omega (arith, c .before .before .before .before .before .before .before .before .before .before .slice-known .given 2)))
+note-requires c κs = rw (c .before .before .before .lay .ensures) (over-roomy _ _ _ _ _ (c .before .before .before .before .before .before .before .pre))
 
 same-length : tie.Need-same-length
-same-length c = c .before .before .tick .kept .0 ∙ c .before .before .before .before .before .before .note .kept .0 ∙ simp length-set (c .before .before .before .before .before .before .before .before .before .before .lay-over .kept .0)
+same-length c = c .before .before .note .kept .0 ∙ simp length-set (c .before .before .before .before .before .before .lay .kept .0)
 
 returns : tie.Need-returns
-returns c = rw (c .before .before .tick .ensures .1, c .before .before .tick .ensures .0, c .before .before .before .before .before .before .note .ensures, c .before .before .before .before .before .before .before .before .before .before .lay-over .ensures) (hand-reduced _ _ _ _ _ (c .before .before .before .before .before .before .before .before .before .before .before .before .before .before .pre) _)
+returns c = let k = hand-reduced _ _ _ _ _ (c .before .before .before .before .before .before .before .before .before .before .pre) _ in rw (c .before .before .note .ensures, c .before .before .before .before .before .before .lay .ensures) (k .0, k .1, refl)
 
 pub reduce-spec : {M : Type 1} → statement M
 reduce-spec =
@@ -55,7 +51,7 @@ reduce-spec =
     (tie.spec
     sub-hand
     add-hand
-    lay-over-requires
+    lay-requires
     mul-area
     add-area
     add-area-2
@@ -64,6 +60,5 @@ reduce-spec =
     sub-note
     sub-note-2
     note-requires
-    tick-requires
     same-length
     returns)

@@ -1,4 +1,5 @@
 -- `moves::slot_word` meets its contract: the word at the slot's place.
+use native.Mathlib.Omega.{arith}
 use borrow.Author.Needs.{needs}
 use Rattle.reader.proofs.moves.slot_word.Statement.{statement}
 use Rattle.reader.proofs.moves.slot_word.Tie as tie
@@ -7,13 +8,13 @@ slot-at-requires : tie.Need-slot-at-requires
 slot-at-requires c κs = search needs
 
 add-result : tie.Need-add-result
-add-result c = search needs
+add-result c = omega arith
 
 mul-result : tie.Need-mul-result
-mul-result c = search needs
+mul-result c = omega arith
 
 shared-slice-read-result : tie.Need-shared-slice-read-result
-shared-slice-read-result c = search needs
+shared-slice-read-result c = omega arith
 
 returns : tie.Need-returns
 returns c = rw (c .before .slot-at .ensures)

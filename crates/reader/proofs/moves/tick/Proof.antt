@@ -11,10 +11,10 @@ add-more : tie.Need-add-more
 add-more c = omega (arith, c .pre .count, c .pre .few, c .pre .low)
 
 cast-area : tie.Need-cast-area
-cast-area c = search needs
+cast-area c = omega arith
 
 slice-write-area : tie.Need-slice-write-area
-slice-write-area c = search needs
+slice-write-area c = omega arith
 
 cast-area-2 : tie.Need-cast-area-2
 cast-area-2 c = omega (arith, c .pre .count, c .pre .few, c .pre .low)

@@ -1,5 +1,4 @@
 -- `moves::unmark` meets its contract: the loop's invariant: what is left to clear, from here, gives what all of it gives from the start.
-use borrow.Author.Needs.{needs}
 use Rattle.reader.specs.MoveWords.{unmarkWords}
 use native.Mathlib.Omega.{arith}
 use Prim.Native.Nat.{suc, _+_, _*_, _-_, _≤_}
@@ -18,7 +17,7 @@ loop-holds : tie.Need-loop-holds Inv-loop μ-loop
 loop-holds c = (omega arith, omega arith, refl, (let e : c .args .count - 0 ≡ c .args .count = omega arith in rw e))
 
 mul-area : tie.Need-mul-area Inv-loop μ-loop
-mul-area c = search needs
+mul-area c = omega arith
 
 slice-write-area : tie.Need-slice-write-area Inv-loop μ-loop
 slice-write-area c = omega arith

@@ -14,7 +14,7 @@ sub-refusal-of : tie.Need-sub-refusal-of
 sub-refusal-of c = omega (arith, c .before .before .before .hand-of .ensures .head)
 
 cast-refusal-of : tie.Need-cast-refusal-of
-cast-refusal-of c = search needs
+cast-refusal-of c = omega arith
 
 refusal-of-requires : tie.Need-refusal-of-requires
 refusal-of-requires c κs = search needs
@@ -26,16 +26,16 @@ returns c =
     refuses (s .args .out .now) (is-stuck (s .args .area .now) (is-alone (s .pre)) refl (rw (h .status) at (c .before .before .if1 .taken)) (rw (h .status, h .head) at (c .refusal-of .ensures)))
 
 cast-count : tie.Need-cast-count
-cast-count c = search needs
+cast-count c = omega arith
 
 cast-size : tie.Need-cast-size
-cast-size c = search needs
+cast-size c = omega arith
 
 mul-size : tie.Need-mul-size
-mul-size c = search needs
+mul-size c = omega arith
 
 mul-t11 : tie.Need-mul-t11
-mul-t11 c = search needs
+mul-t11 c = omega arith
 
 returns-2 : tie.Need-returns-2
 returns-2 c =
@@ -45,16 +45,16 @@ returns-2 c =
     rw (h .reductions) (no-room (s .args .area .now) (s .args .out .now) (at-rest (s .args .area .now) (is-alone (s .pre)) refl rests (s .pre .ended rests)) (rw (h .reductions) at (c .if2 .taken)))
 
 shared-slice-read-put-words : tie.Need-shared-slice-read-put-words
-shared-slice-read-put-words c = search needs
+shared-slice-read-put-words c = omega arith
 
 cast-put-words : tie.Need-cast-put-words
-cast-put-words c = search needs
+cast-put-words c = omega arith
 
 mul-put-words : tie.Need-mul-put-words
-mul-put-words c = search needs
+mul-put-words c = omega arith
 
 add-put-words : tie.Need-add-put-words
-add-put-words c = search needs
+add-put-words c = omega arith
 
 put-words-requires : tie.Need-put-words-requires
 put-words-requires c κs = search needs

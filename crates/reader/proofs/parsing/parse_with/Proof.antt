@@ -1,4 +1,5 @@
 -- `parsing::parse_with` meets its contract: load's answer, then start's, then the row's, by ParseLaws.
+use native.Mathlib.Omega.{arith}
 use borrow.Author.Needs.{needs}
 use Rattle.reader.specs.ParseLaws.{not-loaded, not-started, begun, parsed}
 use Rattle.reader.proofs.parsing.parse_with.Statement.{statement}
@@ -23,7 +24,7 @@ enum-told : tie.Need-enum-told
 enum-told c = search needs
 
 sub-start : tie.Need-sub-start
-sub-start c = search needs
+sub-start c = omega arith
 
 part-start-start : tie.Need-part-start-start
 part-start-start c = search needs
