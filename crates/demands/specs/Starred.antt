@@ -25,7 +25,7 @@ use Rattle.language.specs.SetMasks.{leftMember, leftSet}
 use Rattle.language.specs.RelationTests.{equalTest, yieldsTest, takesTest, relationOf}
 use Rattle.language.specs.Conflicts.{clash, conflictStage}
 use Rattle.language.specs.Matrix.{matrixOf}
-use Rattle.language.specs.Stages.{Stage, checked}
+use Rattle.language.specs.Stages.{Stage, refusedBy, checked}
 use Rattle.language.specs.Loads.{Accepted, loadAnswer, loadBytes, setChecked, leftSetAnswer, rightSetAnswer, accepted-exactly}
 use Rattle.language.specs.Trees.{Span}
 use Rattle.machine.specs.Chunks.{running, stuck, Chunk}
@@ -197,7 +197,7 @@ module _ (words : List ℕ) (loads : loadAnswer words 4096 ≡ answer.Done) wher
   starts : (matrix tokens cuts : List ℕ) (room : ℕ) → grammarInShape words matrix ≡ true → startAnswer words matrix tokens cuts room
       ≡ checked laterStages (record { words = words; matrix = matrix; tokens = tokens; cuts = cuts; room = room })
   unfolding startAnswer
-  starts matrix tokens cuts room shape = rw (shape, startAnswer, checked)
+  starts matrix tokens cuts room shape = rw (shape, startAnswer, checked, refusedBy)
 
   abbrev acceptedWords : Accepted words
   acceptedWords = accepted-exactly words 4096 .0 loads .0

@@ -1,7 +1,7 @@
 // The answer on standard output, each line ended by a line feed.
+use libc::STDOUT_FILENO;
 use refusals::Refusal;
 use refusals::ReportAnswer;
-use libc::STDOUT_FILENO;
 use text::writing;
 ghost use Prim.Native.Nat.{_*_, _≤_};
 ghost use lib.ListN.{length};

@@ -1,11 +1,11 @@
 // The output: answers as numbers, sums of what is lent, and the two put together.
 use crate::input::wide_byte;
+use libc::STDOUT_FILENO;
 use refusals::Answer;
 use refusals::Refusal;
 use refusals::ReportAnswer;
 use refusals::RunAnswer;
 use refusals::SetAnswer;
-use libc::STDOUT_FILENO;
 ghost use Prim.Native.Nat.{_<_};
 
 // What a call answered: number and value of a refusal; or 0, what it counted or the mask of a set, and for a report the moves since
