@@ -167,13 +167,17 @@ fn next_move(words: &[u16], matrix: &[u8], area: &[u16], c: usize, hand: Hand) -
 }
 
 // This move of chunk c, not yet counted; what is at hand after it.
-fn moved(area: &mut [u16], c: usize, hand: Hand, next: Move) -> Hand
+fn moved(area: &mut [u16], c: usize, mut hand: Hand, next: Move) -> Hand
     requires { ⌜ Possible (now area) c next × AtHand (now area) c hand ⌝ }
     ensures { λ r. ⌜ (now (area .exit) ≡ uncounted (now (area .entry)) c next) × AtHand (now (area .exit)) c r × (r .moves ≡ hand .moves) ⌝ }
 {
     match next {
         Move::Push(mark) => moves::push(area, c, hand, mark),
-        Move::Stick(status) => moves::stick(area, c, hand, status),
+        Move::Stick(status) => {
+            hand.status = status;
+            area[5 + 5 * c + 0] = status;
+            hand
+        }
         Move::Accept => moves::accept(area, c, hand),
         Move::Reduce(from, symbol, rule) => moves::reduce(area, c, hand, from, symbol, rule),
     }

@@ -3,11 +3,11 @@
 // What a run needs again at each move goes by value from move to move beside the area (`Hand`), which holds the same.
 ghost use mathlib.Core.Path.{_≡_};
 ghost use Prim.Native.Nat.{_+_, _*_, _-_, _≤_, _<_};
-ghost use lib.ListN.{length, getD, set};
+ghost use lib.ListN.{length, getD};
 ghost use Rattle.area.specs.Layout.{slotsAt, slotWord, tableAt, rowWord, movesIn};
 ghost use Rattle.reader.specs.MoveWords.{tickWords, putWords, endedWords, unmarkWords, joinWords};
-ghost use Rattle.reader.specs.MoveWords.{startOf, clearedOne, clearedWords, overWords, notedWords, madeWords};
-ghost use Rattle.reader.specs.MoveWords.{Ticks, Pushable, Stickable, Acceptable, Joinable, Tagged, Laid, Roomy, Reducible};
+ghost use Rattle.reader.specs.MoveWords.{clearedWords, overWords, notedWords, madeWords};
+ghost use Rattle.reader.specs.MoveWords.{Ticks, Pushable, Acceptable, Joinable, Laid, Roomy, Reducible};
 ghost use Rattle.reader.specs.MoveWords.{slotAt};
 ghost use Rattle.reader.specs.AtHand.{AtHand};
 ghost use Rattle.reader.specs.ReadWords.{Stacked, EndsBlock, startSlot, TopIs, NonterminalOnTop, EndAndAxiom, HandleStarts, nextOf, liveAfter};
@@ -100,16 +100,6 @@ pub fn push(area: &mut [u16], c: usize, mut hand: Hand, mark: u16) -> Hand
     hand
 }
 
-// Chunk c gets stuck with 17 to 20; the move is not yet counted.
-pub fn stick(area: &mut [u16], c: usize, mut hand: Hand, status: u16) -> Hand
-    requires { ⌜ Stickable (now area) c × AtHand (now area) c hand ⌝ }
-    ensures { λ r. ⌜ (now (area .exit) ≡ set (now (area .entry)) (tableAt c 0) status) × AtHand (now (area .exit)) c r × (r .moves ≡ hand .moves) ⌝ }
-{
-    hand.status = status;
-    area[5 + 5 * c + 0] = status;
-    hand
-}
-
 // Puts 0 at `count` words, the first at `at`.
 pub fn zero(area: &mut [u16], at: usize, count: usize)
     requires { ⌜ at + count ≤ length (now area) ⌝ }
@@ -164,28 +154,20 @@ pub fn join_chunks(area: &mut [u16], c: usize, d: usize)
     tick(area, other.moves);
 }
 
-// Clears the block that ends before word `end`, and answers where it starts.
-fn clear_one(area: &mut [u16], end: usize) -> usize
-    requires { ⌜ Tagged (now area) end ⌝ }
-    ensures { λ r. ⌜ (r ≡ startOf (now (area .entry)) end) × (now (area .exit) ≡ clearedOne (now (area .entry)) end) ⌝ }
-{
-    let size = area[end - 1] as usize;
-    let start = end - 4 * size;
-    area[end - 1] = 0;
-    area[start] = 0;
-    area[start + 1] = 0;
-    area[start + 2] = 0;
-    start
-}
-
-// Clears the blocks on the words from `from` up to `to`, from the top down.
+// Clears the blocks on the words from `from` up to `to`, from the top down: of each, which ends in its size, the first three words and the last,
+// the others being 0 already.
 fn clear(area: &mut [u16], from: usize, to: usize)
     requires { ⌜ Laid (now area) from to ⌝ }
     ensures { λ _. ⌜ now (area .exit) ≡ clearedWords (now (area .entry)) from (to - from) ⌝ }
 {
     let mut at = to;
     while from < at {
-        at = clear_one(area, at);
+        let last = at - 1;
+        at -= 4 * (area[last] as usize);
+        area[last] = 0;
+        area[at] = 0;
+        area[at + 1] = 0;
+        area[at + 2] = 0;
     }
 }
 

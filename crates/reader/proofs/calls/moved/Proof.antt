@@ -1,4 +1,8 @@
--- `calls::moved` meets its contract: each move by its own.
+-- `calls::moved` meets its contract: the status of a stuck chunk stored; each other move by its own.
+use native.Mathlib.Omega.{arith}
+use mathlib.Core.Path.{refl}
+use lib.ListN.{length-set}
+use Rattle.reader.proofs.Hands.{hand-stuck}
 use borrow.Author.Needs.{needs}
 use Rattle.reader.proofs.calls.moved.Statement.{statement}
 use Rattle.reader.proofs.calls.moved.Tie as tie
@@ -12,8 +16,20 @@ push-requires c κs = let k = rw (c .before .before .next .given .1) at (c .befo
 enum-known-next-2 : tie.Need-enum-known-next-2
 enum-known-next-2 c = search needs
 
-stick-requires : tie.Need-stick-requires
-stick-requires c κs = let k = rw (c .before .before .next2 .given .1) at (c .before .before .before .before .before .pre .0) in (k, c .before .before .before .before .before .pre .1)
+mul-area : tie.Need-mul-area
+mul-area c = let k = rw (c .before .next2 .given .1) at (c .before .before .before .before .pre .0) in omega (arith, k .chunk, k .room)
+
+add-area : tie.Need-add-area
+add-area c = let k = rw (c .before .next2 .given .1) at (c .before .before .before .before .pre .0) in omega (arith, k .chunk, k .room)
+
+add-area-2 : tie.Need-add-area-2
+add-area-2 c = let k = rw (c .before .next2 .given .1) at (c .before .before .before .before .pre .0) in omega (arith, k .chunk, k .room)
+
+mul-area-2 : tie.Need-mul-area-2
+mul-area-2 c = let k = rw (c .before .next2 .given .1) at (c .before .before .before .before .pre .0) in omega (arith, k .chunk, k .room)
+
+slice-write-area : tie.Need-slice-write-area
+slice-write-area c = let k = rw (c .before .next2 .given .1) at (c .before .before .before .before .pre .0) in omega (arith, k .chunk, k .room)
 
 enum-told : tie.Need-enum-told
 enum-told c = search needs
@@ -34,10 +50,12 @@ returns : tie.Need-returns
 returns c = rw (c .before .before .before .before .before .next .given .1) (c .before .before .push .ensures)
 
 same-length-2 : tie.Need-same-length-2
-same-length-2 c = search needs
+same-length-2 c = simp length-set
 
 returns-2 : tie.Need-returns-2
-returns-2 c = rw (c .before .before .before .before .before .next2 .given .1) (c .before .before .stick .ensures)
+returns-2 c =
+    let k = rw (c .before .next2 .given .1) at (c .before .before .before .before .pre .0) in
+    rw (c .before .next2 .given .1) (refl, hand-stuck _ _ _ _ (k, c .before .before .before .before .pre .1), refl)
 
 same-length-3 : tie.Need-same-length-3
 same-length-3 c = search needs
@@ -58,7 +76,11 @@ moved-spec =
     enum-known-next
     push-requires
     enum-known-next-2
-    stick-requires
+    mul-area
+    add-area
+    add-area-2
+    mul-area-2
+    slice-write-area
     enum-told
     accept-requires
     enum-known-next-3
