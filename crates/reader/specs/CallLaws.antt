@@ -1,8 +1,8 @@
--- The calls by what code finds in the words: out of shape, a number that is not live, a chunk at rest, and otherwise the move that is made.
+-- What the tests of code find in words that are in shape: a number that is live or not, a chunk that is at rest or has a move.
 -- Document 01: "a move or run 15, 12, 13; a join 15, 12, 14"; "All return number and value and leave lent memory unchanged".
--- Rests on Calls, Moved and OneMove, and on machine's GivenExactly.
+-- Rests on Moved and OneMove, and on machine's GivenExactly.
 --
--- Main statements: live-true, live-false, rests-true, rests-false; movable; step-bad, step-gone, step-rests, step-moved.
+-- Main statements: live-true, live-false, rests-true, rests-false; table-there, the-live, none-live, at-rest-there, movable; there.
 use mathlib.Core.Path.{_≡_, refl, sym, ap, subst, _∙_}
 use mathlib.Core.Bool.{Bool, true, false, false≢true}
 use mathlib.Core.List.{List, _++_}
@@ -11,22 +11,16 @@ use native.Mathlib.Omega.{arith}
 use lib.Dec.{eqb, ltb, leb}
 use lib.ListN.{length, getD, drop}
 use Rattle.laws.specs.Tests.{ltb-true, leb-true, ltb-not, leb-not, eqb-true, eq-eqb, not-both}
-use Rattle.refusals.specs.declared.Refusal.the-variants.{BadState, NoChunk, AtRest}
-use Rattle.refusals.specs.declared.Answer.the-variants.{Done, Refused}
-use Rattle.language.specs.Trees.{Span}
-use Rattle.machine.specs.States.{Called, refused, step}
-use Rattle.machine.specs.TableOf.{tableOf}
 use Rattle.machine.specs.Allowed.{Live}
 use Rattle.machine.specs.AllowedExactly.{rests-from}
-use Rattle.machine.specs.GivenExactly.{LiveAtRest, step-no-chunk, step-at-rest}
+use Rattle.machine.specs.GivenExactly.{LiveAtRest}
 use Rattle.area.specs.Layout.{need, decode, rowWord, slotsAt}
 use Rattle.area.specs.Shape.{inShape}
 use Rattle.area.specs.InShape.{in-shape-parts, in-shape-holds}
 use Rattle.reader.specs.MoveWords.{headOf, endOf}
 use Rattle.reader.specs.AroundChunk.{slots-within}
-use Rattle.reader.specs.OneMove.{Held, live-held, held-live, runs-held, rests-held, Movable, moves-so}
-use Rattle.reader.specs.Moved.{liveBy, liveIn, restsBy, restsIn, Moved}
-use Rattle.reader.specs.Calls.{calledAnswer, calledArea, stepCall, stepAnswer, stepArea}
+use Rattle.reader.specs.OneMove.{Held, live-held, held-live, runs-held, rests-held, Movable}
+use Rattle.reader.specs.Moved.{liveBy, liveIn, restsBy, restsIn}
 
 -- ---- the tests
 
@@ -81,45 +75,15 @@ module _ {words bytes area : List ℕ} {c : ℕ} (h : Held words bytes area) whe
   abbrev pub movable : liveIn area c ≡ true → restsIn area c ≡ false → Movable words bytes area c
   movable e r = let p = rests-false area c r in record { held = h; live = the-live e; runs = runs-held h (the-live e) (p .0) (p .1) }
 
--- ---- step
+-- ---- the state that the area decodes to
 
-module _ (words bytes area : List ℕ) (c : ℕ) where
-  by-call : {k : Called Span} → stepCall words bytes area c ≡ k → (calledAnswer k ≡ stepAnswer words bytes area c) × (calledArea k area ≡ stepArea words bytes area c)
-  unfolding stepAnswer stepArea
-  by-call q = (sym (ap calledAnswer q), sym (ap (λ (k : Called Span). calledArea k area) q))
-
-  out-of-shape : inShape words bytes area ≡ false → stepCall words bytes area c ≡ refused BadState
-  unfolding stepCall
-  out-of-shape e = rw (e, stepCall)
-
-  in-shape : inShape words bytes area ≡ true → stepCall words bytes area c ≡ step (tableOf words bytes) c (decode area)
-  unfolding stepCall
-  in-shape e = rw (e, stepCall)
-
-  pub step-bad : inShape words bytes area ≡ false → (Refused BadState ≡ stepAnswer words bytes area c) × (area ≡ stepArea words bytes area c)
-  step-bad e = by-call (out-of-shape e)
-
-  module _ (low : getD area 2 0 < 65536) (shape : inShape words bytes area ≡ true) where
-    -- the state that the area decodes to
-    abbrev pub there : Held words bytes area
-    there = record {
-      tokens = getD area 0 0;
-      state = decode area;
-      rest = drop (need (getD area 0 0) (getD area 1 0)) area;
-      area-is = in-shape-holds words bytes area low shape .is;
-      grammar = in-shape-parts words bytes area shape .0;
-      kept = in-shape-holds words bytes area low shape .kept;
-    }
-
-    pub step-gone : liveIn area c ≡ false → (Refused NoChunk ≡ stepAnswer words bytes area c) × (area ≡ stepArea words bytes area c)
-    step-gone e = by-call (in-shape shape ∙ step-no-chunk (tableOf words bytes) c (decode area) .1 (none-live there e))
-
-    pub step-rests : liveIn area c ≡ true → restsIn area c ≡ true → (Refused AtRest ≡ stepAnswer words bytes area c) × (area ≡ stepArea words bytes area c)
-    step-rests e r = by-call (in-shape shape ∙ step-at-rest (tableOf words bytes) c (decode area) .1 (at-rest-there there e r))
-
-    pub step-moved : (e : liveIn area c ≡ true) (r : restsIn area c ≡ false) {area′ : List ℕ} → Moved words bytes area c area′
-        → (Done ≡ stepAnswer words bytes area c) × (area′ ≡ stepArea words bytes area c)
-    step-moved e r v =
-        let s = moves-so (movable there e r) (v .found (movable there e r)) in
-        let z = by-call (in-shape shape ∙ s .steps) in
-        (z .0, s .are ∙ z .1)
+module _ (words bytes area : List ℕ) (c : ℕ) (low : getD area 2 0 < 65536) (shape : inShape words bytes area ≡ true) where
+  abbrev pub there : Held words bytes area
+  there = record {
+    tokens = getD area 0 0;
+    state = decode area;
+    rest = drop (need (getD area 0 0) (getD area 1 0)) area;
+    area-is = in-shape-holds words bytes area low shape .is;
+    grammar = in-shape-parts words bytes area shape .0;
+    kept = in-shape-holds words bytes area low shape .kept;
+  }

@@ -3,7 +3,7 @@
 -- Document 01: "a join 15, 12, 14"; "14 NO JOIN: no live chunk to the right, or either not at rest".
 -- Rests on CallLaws and OneMove, and on machine's GivenExactly.
 --
--- Main definitions: Follows, RightIs. Main statements: follows, joining; join-bad, join-gone, join-alone, join-moving, join-can, join-made.
+-- Main definition: Follows. Main statements: follows, joining; join-bad, join-gone, join-alone, join-moving, join-can, join-made.
 use mathlib.Core.Path.{_≡_, refl, sym, ap, _∙_}
 use mathlib.Core.Bool.{Bool, true, false, _&&_}
 use mathlib.Core.List.{List, _∷_, _++_, append-assoc}
@@ -22,8 +22,6 @@ use Rattle.machine.specs.AllowedExactly.{rests-to}
 use Rattle.machine.specs.GivenExactly.{CannotJoin, no-live-right, left-not-at-rest, right-not-at-rest, join-no-chunk, no-join-exactly}
 use Rattle.area.specs.Layout.{decode}
 use Rattle.area.specs.Shape.{inShape}
-use Rattle.reader.specs.declared.calls.Right.{Right}
-use Rattle.reader.specs.declared.calls.Right.the-variants as right
 use Rattle.reader.specs.declared.moves.Next.{Next}
 use Rattle.reader.specs.declared.moves.Next.the-variants as next
 use Rattle.reader.specs.MoveWords.{joinWords, Joinable}
@@ -153,13 +151,3 @@ module _ (words bytes area : List ℕ) (c : ℕ) where
 
       pub join-can : (d : ℕ) → next.Chunk d ≡ nextOf (liveAfter area c) → restsIn area c ≡ true → restsIn area d ≡ true → Joinable area c d
       join-can d n p q = can-join (joining c lent e (follows c lent e d n) p q)
-
--- ---- what the checks of a join find
-
--- the join with d can be made and is the call's, or this refusal is
-abbrev pub Offered : List ℕ → List ℕ → List ℕ → ℕ → Right → Type 0
-Offered words bytes area c (right.Chunk d) = Joinable area c d × (Done ≡ joinAnswer words bytes area c) × (joinWords area c d ≡ joinArea words bytes area c)
-Offered words bytes area c (right.Refused refusal) = (Refused refusal ≡ joinAnswer words bytes area c) × (area ≡ joinArea words bytes area c)
-
-pub record RightIs (words bytes area : List ℕ) (c : ℕ) (found : Right) : Type 0 where
-  pub offered : Offered words bytes area c found

@@ -3,8 +3,8 @@
 -- reductions are made in the report's order, so that nothing is left to put in order.
 -- Rests on ParseCall and RunMoves, on results' UncutRow and ReadThrough, area's Start, StartKept, Safe, InShape and Decode, and outcomes' OutcomeWords.
 --
--- Main definitions: Begun (a row has started), Finished (its words once it rests), Parsed.
--- Main statements: begun-runs, begun-few, begun-parsed, row-read; not-loaded, not-started, begun, parsed.
+-- Main definitions: Loaded (a grammar), Begun (a row has started), Finished (its words once it rests), Parsed.
+-- Main statements: begun-runs, begun-few, begun-parsed; not-loaded, loaded, not-started, begun, row-parses.
 use mathlib.Core.Path.{_≡_, refl, sym, ap, subst, _∙_}
 use mathlib.Core.Bool.{true}
 use mathlib.Core.List.{List, [], _∷_, _++_, append-nil}
@@ -223,7 +223,7 @@ module _ {words bytes tokens area : List ℕ} (b : Begun words bytes tokens area
       subst (Parsed words tokens (b .rest)) (sym (r .are)) (row-parsed words (b .accepted) tokens can (b .rest) t)
 
   -- the outcome of the row, its report run and its area, cleared
-  pub row-read : {made : ℕ} {area′ area″ : List ℕ} (out : List ℕ) {answer : ReportAnswer} {out′ : List ℕ}
+  row-read : {made : ℕ} {area′ area″ : List ℕ} (out : List ℕ) {answer : ReportAnswer} {out′ : List ℕ}
       → RanWords words bytes area 0 (2 * length tokens + 2) made area′
       → answer ≡ outcomeAnswer (wordsOutcome area′) (length out) → out′ ≡ outcomeOut (wordsOutcome area′) out
       → area″ ≡ zeros (7 * length tokens + 18) ++ drop (7 * length tokens + 18) area′
@@ -276,46 +276,55 @@ started-as : (words bytes tokens area : List ℕ) {starting : Answer} → startA
 unfolding startArea
 started-as words bytes tokens area e = ap (λ a. startedArea a tokens [] area) e
 
-module _ (words bytes tokens area out : List ℕ) (long : length bytes ≡ 4096) {loading : Answer} (load : loading ≡ loadAnswer words (length bytes)) where
-  loads-as : {answer : Answer} → loading ≡ answer → loadAnswer words 4096 ≡ answer
-  loads-as e = ap (loadAnswer words) (sym long) ∙ sym load ∙ e
+-- words that load accepts, and the matrix that it writes
+pub record Loaded (words bytes : List ℕ) : Type 0 where
+  pub loads : loadAnswer words 4096 ≡ Done
+  pub matrix-is : bytes ≡ matrixOf (grammarOf words)
 
-  pub not-loaded : {refusal : Refusal} → loading ≡ Refused refusal → Answers words tokens area out (report.Refused refusal) area out
-  not-loaded e = begun-refused words tokens area out (begins-by words tokens area out (loads-as e))
+pub not-loaded : (words tokens area out : List ℕ) {loading : Answer} → loading ≡ loadAnswer words 4096 → {refusal : Refusal} → loading ≡ Refused refusal
+    → Answers words tokens area out (report.Refused refusal) area out
+not-loaded words tokens area out load e = begun-refused words tokens area out (begins-by words tokens area out (sym load ∙ e))
 
-  module _ (done : loading ≡ Done) (bytes′ area′ : List ℕ) (fills : bytes′ ≡ loadBytes words bytes) {starting : Answer}
-      (start : starting ≡ startAnswer words bytes′ tokens [] (length area)) (begins : area′ ≡ startArea words bytes′ tokens [] area) where
-    own : bytes′ ≡ matrixOf (grammarOf words)
-    own = fills ∙ loaded-matrix words bytes long (sym load ∙ done)
+pub loaded : (words bytes : List ℕ) → length bytes ≡ 4096 → {loading : Answer} → loading ≡ loadAnswer words (length bytes) → loading ≡ Done
+    → {bytes′ : List ℕ} → bytes′ ≡ loadBytes words bytes → Loaded words bytes′
+loaded words bytes long load done fills = record {
+  loads = ap (loadAnswer words) (sym long) ∙ sym load ∙ done;
+  matrix-is = fills ∙ loaded-matrix words bytes long (sym load ∙ done);
+}
 
-    begins-as : {answer : Answer} → starting ≡ answer → parseBegun words tokens (length area) ≡ answer
-    begins-as e =
-        begins-by words tokens area out (loads-as done) ∙ ap (λ m. startAnswer words m tokens [] (length area)) (sym own) ∙ sym start ∙ e
+module _ {words bytes : List ℕ} (l : Loaded words bytes) (tokens area out : List ℕ) {area′ : List ℕ} {starting : Answer}
+    (start : starting ≡ startAnswer words bytes tokens [] (length area)) (begins : area′ ≡ startArea words bytes tokens [] area) where
+  begins-as : {answer : Answer} → starting ≡ answer → parseBegun words tokens (length area) ≡ answer
+  begins-as e =
+      begins-by words tokens area out (l .loads) ∙ ap (λ m. startAnswer words m tokens [] (length area)) (sym (l .matrix-is)) ∙ sym start ∙ e
 
-    left : {answer : Answer} → starting ≡ answer → area′ ≡ startedArea answer tokens [] area
-    left e = begins ∙ started-as words bytes′ tokens area (sym start ∙ e)
+  left : {answer : Answer} → starting ≡ answer → area′ ≡ startedArea answer tokens [] area
+  left e = begins ∙ started-as words bytes tokens area (sym start ∙ e)
 
-    pub not-started : {refusal : Refusal} → starting ≡ Refused refusal → Answers words tokens area out (report.Refused refusal) area′ out
-    not-started {refusal} e =
-        subst (λ a. Answers words tokens area out (report.Refused refusal) a out) (sym (left e)) (begun-refused words tokens area out (begins-as e))
+  pub not-started : {refusal : Refusal} → starting ≡ Refused refusal → Answers words tokens area out (report.Refused refusal) area′ out
+  not-started {refusal} e =
+      subst (λ a. Answers words tokens area out (report.Refused refusal) a out) (sym (left e)) (begun-refused words tokens area out (begins-as e))
 
-    module _ (starts : starting ≡ Done) where
-      pub begun : Begun words bytes′ tokens area′
-      begun = record {
-        accepted = accepted-exactly words 4096 .0 (loads-as done) .0;
-        matrix-is = own;
-        room = length area;
-        startable = starts-exactly words bytes′ tokens [] (length area) .0 (sym start ∙ starts);
-        rest = drop (need (length tokens) 1) area;
-        area-is = left starts;
-      }
+  module _ (starts : starting ≡ Done) where
+    pub begun : Begun words bytes tokens area′
+    begun = record {
+      accepted = accepted-exactly words 4096 .0 (l .loads) .0;
+      matrix-is = l .matrix-is;
+      room = length area;
+      startable = starts-exactly words bytes tokens [] (length area) .0 (sym start ∙ starts);
+      rest = drop (need (length tokens) 1) area;
+      area-is = left starts;
+    }
 
-      same-beyond : drop (need (length tokens) 1) area′ ≡ drop (need (length tokens) 1) area
-      unfolding begun
-      same-beyond = beyond begun
+    same-beyond : drop (need (length tokens) 1) area′ ≡ drop (need (length tokens) 1) area
+    unfolding begun
+    same-beyond = beyond begun
 
-      pub parsed : {answer : ReportAnswer} {area″ out′ : List ℕ} → answer ≡ outcomeAnswer (parseOutcome words tokens) (length out)
-          → area″ ≡ zeros (need (length tokens) 1) ++ drop (need (length tokens) 1) area′ → out′ ≡ outcomeOut (parseOutcome words tokens) out
-          → Answers words tokens area out answer area″ out′
-      parsed a z o =
-          begun-read words tokens area out (begins-as starts) a (z ∙ ap (λ l. zeros (need (length tokens) 1) ++ l) same-beyond) o
+    -- the row's moves, its outcome and its words cleared are the parse
+    pub row-parses : {made : ℕ} {moved area″ : List ℕ} {answer : ReportAnswer} {out′ : List ℕ}
+        → RanWords words bytes area′ 0 (2 * length tokens + 2) made moved
+        → answer ≡ outcomeAnswer (wordsOutcome moved) (length out) → out′ ≡ outcomeOut (wordsOutcome moved) out
+        → area″ ≡ zeros (7 * length tokens + 18) ++ drop (7 * length tokens + 18) moved → Answers words tokens area out answer area″ out′
+    row-parses w a o z =
+        let r = row-read begun out w a o z in
+        begun-read words tokens area out (begins-as starts) (r .0) (r .1 .0 ∙ ap (λ l. zeros (need (length tokens) 1) ++ l) same-beyond) (r .1 .1)

@@ -2,10 +2,11 @@
 -- Document 01, "Moves of a chunk": "it makes moves until K are made or it rests, and answers how many it made."
 -- Rests on OneMove, Moved and CallLaws, and on machine's Counts (the laws for a loop that makes a run's moves).
 --
--- Main definitions: Runnable, RanWords (the words that a run's moves leave), Underway (after some of them), ReadyIs (what the checks find).
--- Main statements: underway, underway-listed, underway-movable, underway-more, underway-rests, underway-spent; run-bad, run-gone, run-rests, run-moved.
-use mathlib.Core.Path.{_≡_, sym, ap, _∙_}
-use mathlib.Core.Bool.{true, false, false≢true}
+-- Main definitions: Runnable, RanWords (the words that a run's moves leave), Underway (after some of them).
+-- Main statements: underway, underway-listed, underway-movable, underway-more, underway-rests, underway-spent; run-bad, run-gone, run-rests, run-moved;
+-- step-by-run (a step is a run of one move).
+use mathlib.Core.Path.{_≡_, refl, sym, ap, _∙_}
+use mathlib.Core.Bool.{Bool, true, false, false≢true}
 use mathlib.Core.List.{List, _++_}
 use Prim.Native.Nat.{ℕ, suc, _+_, _-_, _<_, _≤_}
 use native.Mathlib.Omega.{arith}
@@ -14,15 +15,17 @@ use Rattle.laws.specs.Tests.{lt-ltb}
 use Rattle.refusals.specs.declared.Refusal.the-variants.{BadState, NoChunk, AtRest}
 use Rattle.refusals.specs.declared.Answer.{Answer}
 use Rattle.refusals.specs.declared.Answer.the-variants.{Done, Refused}
+use Rattle.refusals.specs.declared.RunAnswer.{RunAnswer}
 use Rattle.refusals.specs.declared.RunAnswer.the-variants as answer
 use Rattle.language.specs.Trees.{Span}
 use Rattle.language.specs.Words.{countT, countN}
-use Rattle.machine.specs.States.{State, Ran, refusedRun, ran, moving, run}
+use Rattle.machine.specs.Moves.{Table}
+use Rattle.machine.specs.States.{State, Called, refused, became, Ran, refusedRun, ran, step, moving, run}
 use Rattle.machine.specs.Schedules.{by-step}
 use Rattle.machine.specs.TableOf.{tableOf}
 use Rattle.machine.specs.Allowed.{IsAtRest, Live}
-use Rattle.machine.specs.AllowedExactly.{rests-to}
-use Rattle.machine.specs.GivenExactly.{run-no-chunk, run-at-rest}
+use Rattle.machine.specs.AllowedExactly.{rests-to, StepView, no-such-chunk, was-at-rest, steps-so, step-view}
+use Rattle.machine.specs.GivenExactly.{step-at-rest, RunView, run-no-chunk-so, run-at-rest-so, runs-so, run-view, run-no-chunk, run-at-rest}
 use Rattle.machine.specs.Counts.{run-moving, moving-step, moving-rests}
 use Rattle.area.specs.Layout.{need, encode, decode, slotsAt}
 use Rattle.area.specs.Kept.{Kept}
@@ -32,7 +35,7 @@ use Rattle.reader.specs.MoveLaw.{Stepped, runs-on}
 use Rattle.reader.specs.OneMove.{Held, Movable, held-live, live-stepped, moves-so}
 use Rattle.reader.specs.Moved.{Moved, liveIn, restsIn, live-status}
 use Rattle.reader.specs.CallLaws.{there, table-there, the-live, none-live, at-rest-there, movable}
-use Rattle.reader.specs.Calls.{stepAnswer, stepArea, ranAnswer, ranArea, runCall, runAnswer, runArea}
+use Rattle.reader.specs.Calls.{calledAnswer, calledArea, stepCall, stepAnswer, stepArea, ranAnswer, ranArea, runCall, runAnswer, runArea}
 
 -- an area that holds a state of which chunk c is live
 pub record Runnable (words bytes area : List ℕ) (c : ℕ) : Type 0 where
@@ -159,14 +162,49 @@ module _ (words bytes area : List ℕ) (c budget : ℕ) where
         let z = by-run (in-shape shape ∙ run-moving (tableOf words bytes) c (decode area) (k .live) (λ i. false≢true (sym (runs-on (k .runs)) ∙ rests-to i)) budget ∙ s .ends) in
         (z .0, s .are ∙ z .1)
 
--- ---- the checks of step and run
+-- ---- step
 
--- a refusal is that of both calls; without one a chunk in shape is live and not at rest
-abbrev pub Ready : List ℕ → List ℕ → List ℕ → ℕ → Answer → Type 0
-Ready words bytes area c (Refused refusal) =
-    ((Refused refusal ≡ stepAnswer words bytes area c) × (area ≡ stepArea words bytes area c))
-    × ((budget : ℕ) → (answer.Refused refusal ≡ runAnswer words bytes area c budget) × (area ≡ runArea words bytes area c budget))
-Ready words bytes area c Done = (getD area 2 0 < 65536) × (inShape words bytes area ≡ true) × (liveIn area c ≡ true) × (restsIn area c ≡ false)
+-- a step's call as a run's
+abbrev once : {Value : Type 0} → Called Value → Ran Value
+once (refused refusal) = refusedRun refusal
+once (became s) = ran 1 s
 
-pub record ReadyIs (words bytes area : List ℕ) (c : ℕ) (checked : Answer) : Type 0 where
-  pub found : Ready words bytes area c checked
+-- a step is a run of one move
+one-step : {Value : Type 0} (table : Table Value) (c : ℕ) (s : State Value) → run table c 1 s ≡ once (step table c s)
+one-step {Value} table c s = by-view refl (step-view table c s)
+  where
+    moves : {s′ : State Value} {answer : Ran Value} → step table c s ≡ became s′ → Live (s .chunks) c → RunView table c 1 s answer → answer ≡ ran 1 s′
+    moves q l (run-no-chunk-so h) = absurd (h l)
+    moves q l (run-at-rest-so h) = let e = sym q ∙ step-at-rest table c s .1 h in let z : _≡_ {A = ℕ} 0 1 = cc in absurd (omega arith)
+    moves q l (runs-so m h e) = sym e ∙ moving-step table c s q 0 0
+
+    by-view : {call : Called Value} → step table c s ≡ call → StepView table c s call → run table c 1 s ≡ once call
+    by-view q (no-such-chunk h) = run-no-chunk table c 1 s .1 h
+    by-view q (was-at-rest l r) = run-at-rest table c 1 s .1 (record { live = l; rests = r })
+    by-view q (steps-so m) = moves q (m .live) (run-view table c 1 s)
+
+-- the answer of a step by that of a run of one
+abbrev pub stepOf : RunAnswer → Answer
+stepOf (answer.Refused refusal) = Refused refusal
+stepOf (answer.Moves made) = Done
+
+module _ (words bytes area : List ℕ) (c : ℕ) where
+  as-run : runCall words bytes area c 1 ≡ once (stepCall words bytes area c)
+  unfolding runCall stepCall
+  as-run = go (inShape words bytes area)
+    where
+      go : (t : Bool) → elim t [ false ↦ refusedRun BadState | true ↦ run (tableOf words bytes) c 1 (decode area) ]
+          ≡ once {Value = Span} (elim t [ false ↦ refused BadState | true ↦ step (tableOf words bytes) c (decode area) ])
+      go false = refl
+      go true = one-step (tableOf words bytes) c (decode area)
+
+  pub step-by-run : {r : RunAnswer} {area′ : List ℕ} → r ≡ runAnswer words bytes area c 1 → area′ ≡ runArea words bytes area c 1
+      → (stepOf r ≡ stepAnswer words bytes area c) × (area′ ≡ stepArea words bytes area c)
+  unfolding runAnswer runArea stepAnswer stepArea
+  step-by-run p q =
+      let same = go (stepCall words bytes area c) in
+      (ap stepOf (p ∙ ap ranAnswer as-run) ∙ same .0, q ∙ ap (λ (k : Ran Span). ranArea k area) as-run ∙ same .1)
+    where
+      go : (k : Called Span) → (stepOf (ranAnswer (once k)) ≡ calledAnswer k) × (ranArea (once k) area ≡ calledArea k area)
+      go (refused refusal) = (refl, refl)
+      go (became s) = (refl, refl)

@@ -1,12 +1,9 @@
-// The checks of a call; one move of a chunk, by document 01's rules 1 to 6: the tests of the words in their order, which end in the move
+// The tests of a chunk; one move of it, by document 01's rules 1 to 6: the tests of the words in their order, which end in the move
 // that they call for, and that move made; and the moves of a run.
 use crate::moves;
 use crate::moves::Hand;
 use crate::moves::Matched;
-use crate::moves::Next;
 use crate::moves::Top;
-use refusals::Answer;
-use refusals::Refusal;
 ghost use mathlib.Core.Path.{_≡_};
 ghost use Prim.Native.Nat.{_+_, _*_, _≤_, _<_};
 ghost use lib.Dec.{eqb};
@@ -14,8 +11,7 @@ ghost use lib.ListN.{length, getD};
 ghost use Rattle.language.specs.Words.{countR, entry, word};
 ghost use Rattle.area.specs.Layout.{slotsAt};
 ghost use Rattle.reader.specs.OneMove.{Movable};
-ghost use Rattle.reader.specs.RunMoves.{ReadyIs, Runnable, RanWords};
-ghost use Rattle.reader.specs.JoinCalls.{RightIs};
+ghost use Rattle.reader.specs.RunMoves.{Runnable, RanWords};
 ghost use Rattle.reader.specs.Moved.{Moved, uncounted, Possible, CallsFor, Facing, Takes, HasLeft, liveIn, restsBy, restsIn};
 ghost use Rattle.reader.specs.AtHand.{AtHand};
 
@@ -28,14 +24,8 @@ pub enum Move {
     Reduce(u16, u16, u16),
 }
 
-// The chunk that another can be joined to, or the refusal of the join.
-pub enum Right {
-    Chunk(usize),
-    Refused(Refusal),
-}
-
 // Whether number c is live.
-fn is_live(area: &[u16], c: usize) -> bool
+pub fn is_live(area: &[u16], c: usize) -> bool
     requires { ⌜ (2 ≤ length (now area)) × (slotsAt (now area) ≤ length (now area)) ⌝ }
     ensures { λ r. ⌜ r ≡ liveIn (now (area .entry)) c ⌝ }
 {
@@ -56,45 +46,11 @@ fn resting(hand: Hand) -> bool
 }
 
 // Whether chunk c, a live one, is at rest.
-fn at_rest(area: &[u16], c: usize) -> bool
+pub fn at_rest(area: &[u16], c: usize) -> bool
     requires { ⌜ (c < getD (now area) 1 0) × (slotsAt (now area) ≤ length (now area)) ⌝ }
     ensures { λ r. ⌜ r ≡ restsIn (now (area .entry)) c ⌝ }
 {
     resting(moves::hand_of(area, c))
-}
-
-// Whether chunk c can move: checks 15, 12 and 13.
-pub fn ready(words: &[u16], matrix: &[u8], area: &[u16], c: usize) -> Answer
-    ensures { λ r. ⌜ ReadyIs (now (words .entry)) (now (matrix .entry)) (now (area .entry)) c r ⌝ }
-{
-    if !area::in_shape(words, matrix, area) {
-        return Answer::Refused(Refusal::BadState);
-    }
-    if !is_live(area, c) {
-        return Answer::Refused(Refusal::NoChunk);
-    }
-    if at_rest(area, c) {
-        return Answer::Refused(Refusal::AtRest);
-    }
-    Answer::Done
-}
-
-// The chunk that chunk c can be joined to: checks 15, 12 and 14.
-pub fn right_of(words: &[u16], matrix: &[u8], area: &[u16], c: usize) -> Right
-    ensures { λ r. ⌜ RightIs (now (words .entry)) (now (matrix .entry)) (now (area .entry)) c r ⌝ }
-{
-    if !area::in_shape(words, matrix, area) {
-        return Right::Refused(Refusal::BadState);
-    }
-    if !is_live(area, c) {
-        return Right::Refused(Refusal::NoChunk);
-    }
-    if let Next::Chunk(d) = moves::next_live(area, c) {
-        if at_rest(area, c) & at_rest(area, d) {
-            return Right::Chunk(d);
-        }
-    }
-    Right::Refused(Refusal::NoJoin)
 }
 
 // The word of rule r's left side.

@@ -1,4 +1,4 @@
-// The one-call parse: load and start, the moves of chunk 0 until it rests, the row's outcome read off the words, and the words cleared.
+// The one-call parse of a loaded grammar: start, the moves of chunk 0 until it rests, the row's outcome read off the words, and the words cleared.
 use crate::calls;
 use crate::moves;
 use refusals::Answer;
@@ -9,11 +9,10 @@ ghost use mathlib.Core.List.{_++_};
 ghost use Prim.Native.Nat.{_+_, _*_, _≤_};
 ghost use lib.ListN.{length, take, drop};
 ghost use Rattle.machine.specs.Answers.{outcomeAnswer, outcomeOut};
-ghost use Rattle.area.specs.Layout.{need, zeros};
 ghost use Rattle.outcomes.specs.OutcomeWords.{stuckRefusal, wordsOutcome};
 ghost use Rattle.reader.specs.MoveWords.{clearedWords};
-ghost use Rattle.reader.specs.ParseCall.{parseOutcome, parseAnswer, parseArea, parseOut};
-ghost use Rattle.reader.specs.ParseLaws.{Begun, Finished};
+ghost use Rattle.reader.specs.ParseCall.{parseAnswer, parseArea, parseOut};
+ghost use Rattle.reader.specs.ParseLaws.{Loaded, Finished};
 
 // The refusal of a row stuck with this status at this place.
 fn refusal_of(status: u16, place: u32) -> Refusal
@@ -72,43 +71,24 @@ fn cleared(area: &mut [u16], n: usize, answer: ReportAnswer) -> ReportAnswer
     answer
 }
 
-// A row that has started, read until it rests; its outcome; and then its words cleared.
-fn read_row(
+// The one-call parse of a row by a grammar that has been loaded: the row started, read until it rests, its outcome, and its words cleared.
+pub fn parse_loaded(
     words: &[u16],
     matrix: &[u8],
     tokens: &[u16],
     area: &mut [u16],
     out: &mut [u16],
 ) -> ReportAnswer
-    requires { ⌜ Begun (now words) (now matrix) (now tokens) (now area) ⌝ }
-    ensures { λ r. ⌜ r ≡ outcomeAnswer (parseOutcome (now (words .entry)) (now (tokens .entry))) (length (now (out .entry))) ⌝ }
-    ensures { λ _. ⌜ now (area .exit) ≡ zeros (need (length (now (tokens .entry))) 1) ++ drop (need (length (now (tokens .entry))) 1) (now (area .entry)) ⌝ }
-    ensures { λ _. ⌜ now (out .exit) ≡ outcomeOut (parseOutcome (now (words .entry)) (now (tokens .entry))) (now (out .entry)) ⌝ }
-{
-    let n = tokens.len();
-    calls::make_moves(words, matrix, area, 0, 2 * (n as u32) + 2);
-    let answer = outcome(area, out);
-    cleared(area, n, answer)
-}
-
-// The one-call parse, with 4,096 bytes for its matrix.
-pub fn parse_with(
-    words: &[u16],
-    matrix: &mut [u8],
-    tokens: &[u16],
-    area: &mut [u16],
-    out: &mut [u16],
-) -> ReportAnswer
-    requires { ⌜ length (now matrix) ≡ 4096 ⌝ }
+    requires { ⌜ Loaded (now words) (now matrix) ⌝ }
     ensures { λ r. ⌜ r ≡ parseAnswer (now (words .entry)) (now (tokens .entry)) (length (now (area .entry))) (length (now (out .entry))) ⌝ }
     ensures { λ _. ⌜ now (area .exit) ≡ parseArea (now (words .entry)) (now (tokens .entry)) (now (area .entry)) ⌝ }
     ensures { λ _. ⌜ now (out .exit) ≡ parseOut (now (words .entry)) (now (tokens .entry)) (length (now (area .entry))) (now (out .entry)) ⌝ }
 {
-    if let Answer::Refused(refusal) = table::load(words, matrix) {
-        return ReportAnswer::Refused(refusal);
-    }
     if let Answer::Refused(refusal) = area::start(words, matrix, tokens, &tokens[0..0], area) {
         return ReportAnswer::Refused(refusal);
     }
-    read_row(words, matrix, tokens, area, out)
+    let n = tokens.len();
+    calls::make_moves(words, matrix, area, 0, 2 * (n as u32) + 2);
+    let answer = outcome(area, out);
+    cleared(area, n, answer)
 }
