@@ -54,8 +54,8 @@ TIED = {
     ("machine", "States", "step"): [("machine", "AllowedExactly", "step-exactly")],
     ("machine", "States", "join"): [("machine", "AllowedExactly", "join-exactly")],
     ("machine", "States", "run"): [("machine", "Counts", "run-exactly")],
-    ("area", "Shape", "areaInShape"): [("area", "InShape", "in-shape-exactly")],
-    ("area", "Layout", "decode"): [("area", "Decode", "decode-encode")],
+    ("area", "Shape", "areaInShape"): [("shape", "InShape", "in-shape-exactly")],
+    ("area", "Layout", "decode"): [("shape", "Decode", "decode-encode")],
     ("text", "Feeding", "fedAll"): [("text", "TextFed", "text-fed"), ("text", "TextFed", "pieces-read")],
     ("text", "Feeding", "fed"): [], ("text", "Feeding", "finishOf"): [], ("text", "Feeding", "answerOf"): [],
 }
@@ -64,7 +64,7 @@ FILES_BEGIN, FILES_END = "<!-- files begin -->", "<!-- files end -->"
 SECTIONS = ["What the library covers", "Numbers", "The grammar words", "Sets and matrix", "Moves of a chunk", "The report", "Refusal numbers", "Sample rows",
             "Errors my students make", "Forms to use in the code", "How far promises go"]
 KEYWORDS = {"abbrev", "unfoldable", "data", "record", "bad", "ensures", "use"}
-ORDER = ["refusals", "language", "laws", "machine", "results", "table", "area", "outcomes", "reader", "report", "demands", "text", "grugalash", "rows", "vectors"]
+ORDER = ["refusals", "language", "laws", "machine", "results", "table", "area", "shape", "outcomes", "reader", "report", "demands", "text", "grugalash", "rows", "vectors"]
 
 HEAD = re.compile(r"^( *)(?:pub +)?(abbrev|unfoldable|data|record|module)\b(?: +pub)? +([^\s{]\S*)")
 THEOREM = re.compile(r"^( *)pub +([^\s:]+) *:")

@@ -39,10 +39,10 @@ use Rattle.machine.specs.Answers.{outcomeAnswer, outcomeOut}
 use Rattle.area.specs.Layout.{need, zeros, encode, decode, needIn}
 use Rattle.area.specs.Lengths.{length-report, encode-length}
 use Rattle.area.specs.Shape.{grammarInShape, inShape}
-use Rattle.area.specs.ShapeExactly.{HoldsState}
-use Rattle.area.specs.InShape.{in-shape-parts, in-shape-holds}
-use Rattle.area.specs.RulesAfterTurn.{same-number}
-use Rattle.area.specs.Safe.{Safe, safe-turned, safe-run}
+use Rattle.shape.specs.ShapeExactly.{HoldsState}
+use Rattle.shape.specs.InShape.{in-shape-parts, in-shape-holds}
+use Rattle.shape.specs.RulesAfterTurn.{same-number}
+use Rattle.shape.specs.Safe.{Safe, safe-turned, safe-run}
 use Rattle.area.specs.Start.{startConditions, GrammarBroken, grammar-broken, too-many-cuts, cut-above, cut-below, WrongCut, NoRoomForRow, no-room, startAnswer, startedArea, startArea, starts-exactly}
 use Rattle.area.specs.StartKept.{cuts-good}
 use Rattle.area.specs.StartWords.{start-words, start-words-length}

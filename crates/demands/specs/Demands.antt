@@ -30,7 +30,7 @@ use Rattle.results.specs.UncutRow.{InLanguage, AxiomTree}
 use Rattle.area.specs.Layout.{need, encode, decode, movesIn, beyondIn}
 use Rattle.area.specs.Shape.{inShape}
 use Rattle.area.specs.Start.{startAnswer}
-use Rattle.area.specs.Safe.{Safe}
+use Rattle.shape.specs.Safe.{Safe}
 use Rattle.reader.specs.ParseCall.{parseOutcome, parseAnswer, parseOut}
 use Rattle.report.specs.ReportCall.{reportOutcome, reportAnswer, reportOut}
 use Rattle.demands.specs.PublicCalls.{PublicCall, GivesBack, promised, Keeps, numberFor, numbersFor, Written, written}

@@ -5,7 +5,7 @@
 -- rules gets the move named above": the state is any that keeps the rules, reached or not, with any words and matrix that do. "Doing
 -- nothing on a move, or leaving chunks untouched until one call does the whole row" is so shut out, and so is an invented count.
 -- A lent area in shape holds such a state: the one it decodes to. Its words have 16 bits, so its word 2 is below 65,536.
--- Rests on OnWords, on machine's AllowedExactly and Counts, and area's InShape and Safe.
+-- Rests on OnWords, on machine's AllowedExactly and Counts, and shape's InShape and Safe.
 --
 -- Main definitions: StepLeaves, RunLeaves, JoinLeaves. Main statements: step-demand, run-demand, join-demand; of a lent area: lent-state.
 use mathlib.Core.Path.{_≡_, refl, sym, ap, _∙_}
@@ -26,8 +26,8 @@ use Rattle.machine.specs.AllowedExactly.{step-exactly, join-exactly}
 use Rattle.machine.specs.Counts.{RunNamed, run-exactly}
 use Rattle.area.specs.Layout.{need, encode, decode}
 use Rattle.area.specs.Shape.{grammarInShape, inShape}
-use Rattle.area.specs.InShape.{in-shape-parts, in-shape-holds}
-use Rattle.area.specs.Safe.{Safe, safe-turned, safe-run}
+use Rattle.shape.specs.InShape.{in-shape-parts, in-shape-holds}
+use Rattle.shape.specs.Safe.{Safe, safe-turned, safe-run}
 use Rattle.reader.specs.Calls.{calledAnswer, calledArea, ranAnswer, ranArea, stepCall, stepAnswer, stepArea, runCall, runAnswer, runArea, joinCall, joinAnswer, joinArea}
 use Rattle.demands.specs.OnWords.{reads, step-is, run-is, join-is, leaves}
 

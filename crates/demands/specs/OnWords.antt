@@ -1,7 +1,7 @@
 -- A call on the words of a state is the machine's call on that state, and leaves the words of the state after it.
 -- Document 01: "Any other state that keeps the shape rules gets the move named above"; "anything beyond is untouched". The state is any
 -- that keeps the rules of docs/AREA.md, with any words and matrix that do; whatever stands after its words stays.
--- Rests on reader's Calls, report's ReportCall, and area's InShape and Decode.
+-- Rests on reader's Calls, report's ReportCall, and shape's InShape and Decode.
 --
 -- Main statements: step-is, run-is, join-is, report-is (the calls), leaves (the words afterwards).
 use mathlib.Core.Path.{_≡_, refl, ap}
@@ -16,13 +16,13 @@ use Rattle.machine.specs.States.{State, step, run, join, outcome}
 use Rattle.machine.specs.TableOf.{tableOf}
 use Rattle.area.specs.Layout.{need, encode, decode}
 use Rattle.area.specs.Lengths.{encode-length}
-use Rattle.area.specs.Encoded.{tokens-at, chunks-at}
-use Rattle.area.specs.Decode.{decode-encode}
+use Rattle.shape.specs.Encoded.{tokens-at, chunks-at}
+use Rattle.shape.specs.Decode.{decode-encode}
 use Rattle.area.specs.Shape.{grammarInShape, inShape}
 use Rattle.area.specs.WordsOfShape.{terminals-fit}
 use Rattle.area.specs.EndMarkOfShape.{grammar-in-shape}
-use Rattle.area.specs.InShape.{holds-in-shape}
-use Rattle.area.specs.Safe.{Safe}
+use Rattle.shape.specs.InShape.{holds-in-shape}
+use Rattle.shape.specs.Safe.{Safe}
 use Rattle.reader.specs.Calls.{withState, stepCall, runCall, joinCall}
 use Rattle.report.specs.ReportCall.{reportOutcome}
 

@@ -27,7 +27,7 @@ use Rattle.results.specs.Bounded.{mostMoves, bounded}
 use Rattle.machine.specs.Counts.{moves-since-start}
 use Rattle.machine.specs.GivenExactly.{outcome-refuses}
 use Rattle.area.specs.Layout.{movesIn}
-use Rattle.area.specs.Encoded.{moves-at, low-moves-at}
+use Rattle.shape.specs.Encoded.{moves-at, low-moves-at}
 use Rattle.area.specs.Shape.{inShape}
 use Rattle.area.specs.StartKept.{no-end}
 use Rattle.report.specs.ReportCall.{reportOutcome, reportAnswer}

@@ -1,7 +1,7 @@
 -- What stands in the area after one accepted load, one accepted start and any list of step, run and join calls: the words of a state
 -- that the machine's named moves reach from the start, as many of them as the calls' answers tell of.
 -- Document 01, "Moves of a chunk", and 15: "never .. for a state reached from such a load and start with those same words and matrix".
--- Rests on Calls, OnWords and OwnMatrix, on area's Start and Safe, and on machine's Schedules, Counts and GivenExactly.
+-- Rests on Calls, OnWords and OwnMatrix, on area's Start and shape's Safe, and on machine's Schedules, Counts and GivenExactly.
 --
 -- Main definitions: Standing, CallView. Main statements: standing-begun, call-view, standing-call, standing-after.
 use mathlib.Core.Path.{_≡_, refl, sym, ap, subst, _∙_}
@@ -29,7 +29,7 @@ use Rattle.machine.specs.GivenExactly.{step-refuses, run-refuses, join-refuses}
 use Rattle.area.specs.Layout.{need, encode}
 use Rattle.area.specs.Shape.{grammarInShape}
 use Rattle.area.specs.Start.{Startable, startedArea, startArea, starts-exactly}
-use Rattle.area.specs.Safe.{Safe, safe-start, safe-scheduled}
+use Rattle.shape.specs.Safe.{Safe, safe-start, safe-scheduled}
 use Rattle.reader.specs.Calls.{calledAnswer, calledArea, ranAnswer, ranArea, stepCall, stepAnswer, stepArea, runCall, runAnswer, runArea, joinCall, joinAnswer, joinArea}
 use Rattle.demands.specs.Calls.{Call, a-step, a-run, a-join, matrixFor, callNumber, callMade, callArea, areaAfter, movesMade, OfLoad, AllOfLoad, no-call, and-call, Begun}
 use Rattle.demands.specs.OwnMatrix.{ownTable, own-shape, accepted, shape-is, table-is}

@@ -36,7 +36,7 @@ use Rattle.machine.specs.Answers.{outcomeAnswer, outcomeOut}
 use Rattle.area.specs.Layout.{need, zeros, encode, decode}
 use Rattle.area.specs.Shape.{grammarInShape}
 use Rattle.area.specs.Start.{StartInput, emptyStage, lengthStage, tokenStage, cutStage, roomStage, startAnswer, startedArea, startArea, starts-exactly}
-use Rattle.area.specs.Safe.{Safe, safe-start, safe-turned, safe-run}
+use Rattle.shape.specs.Safe.{Safe, safe-start, safe-turned, safe-run}
 use Rattle.reader.specs.Calls.{withState, calledArea, ranArea, runCall, runArea, joinCall, joinArea}
 use Rattle.reader.specs.ParseCall.{thenStart, parsedAnswer, parsedOut, parseOutcome, parseBegun, parseAnswer, parseOut}
 use Rattle.report.specs.ReportCall.{reportOutcome, reportAnswer, reportOut}

@@ -2,7 +2,7 @@
 -- the reductions made and the count of moves. Nothing is parsed anew.
 -- Document 01: "a report writes just these reductions, put in order, and gives this count, and parses nothing anew"; "16 UNFINISHED:
 -- several chunks live, or the one not at rest"; "17 .. 20: the finished row stuck so", with the place of the unread symbol.
--- Rests on area's Layout, Kept, Encoded and ShapeExactly, and on machine's States.
+-- Rests on area's Layout and Kept and shape's Encoded and ShapeExactly, and on machine's States.
 --
 -- Main definitions: noneLive, stuckRefusal, wordsReport, wordsOutcome, Reportable. Main statements: outcome-words, reportable.
 use mathlib.Core.Path.{_≡_, refl, sym, ap, _∙_}
@@ -30,10 +30,10 @@ use Rattle.machine.specs.Starts.{symbolsAlong}
 use Rattle.area.specs.Layout.{need, size, stackSize, unreadSize, chunkSize, statusWord, row, rows, encode, madeAtWord, spanAt, readMade, movesIn, decode}
 use Rattle.area.specs.Kept.{Lies, first-end, last-end, within, Tiles, tile, FirstLive, first-live, not-stuck, stuck-fine, AllStuckFine, and-chunk}
 use Rattle.area.specs.Lengths.{stack-size, tiles-end, encode-length, few-reductions}
-use Rattle.area.specs.Tiling.{tiles-split}
-use Rattle.area.specs.Walks.{status-word}
-use Rattle.area.specs.Encoded.{fromSlots, table-at, count-at}
-use Rattle.area.specs.ShapeExactly.{HoldsState}
+use Rattle.shape.specs.Tiling.{tiles-split}
+use Rattle.shape.specs.Walks.{status-word}
+use Rattle.shape.specs.Encoded.{fromSlots, table-at, count-at}
+use Rattle.shape.specs.ShapeExactly.{HoldsState}
 
 -- ---- the definitions
 

@@ -1,7 +1,7 @@
 -- The accepting move: what `acceptWords` makes of a state's words, and what it asks of them; and what the accepting move tells of a
 -- row: its # is the last symbol, and one chunk alone is live.
 -- Document 01, "Moves of a chunk": "for # over #, if the stack is # and an axiom read #, the stack unchanged".
--- Rests on AroundChunk and MoveWords, and on area's Tiling.
+-- Rests on AroundChunk and MoveWords, and on shape's Tiling.
 --
 -- Main statements: accept-law, accept-ready, accepting-last.
 use mathlib.Core.Path.{_≡_, refl, sym, ap, _∙_}
@@ -22,9 +22,9 @@ use Rattle.machine.specs.Allowed.{AllGone, Live}
 use Rattle.area.specs.Layout.{size, unreadSize, block, stackSize, stackWords, marks, statusWord, total, tailWords, encode, tableAt}
 use Rattle.area.specs.Lengths.{length-stack, length-rows, length-slots}
 use Rattle.area.specs.Kept.{Tiles, Kept}
-use Rattle.area.specs.Encoded.{chunks-at}
+use Rattle.shape.specs.Encoded.{chunks-at}
 use Rattle.area.specs.RowCounts.{no-symbol}
-use Rattle.area.specs.Tiling.{end-is-last}
+use Rattle.shape.specs.Tiling.{end-is-last}
 use Rattle.reader.specs.MoveWords.{endOf, endedWords, acceptWords, Acceptable}
 use Rattle.reader.specs.KeptAround.{symbols-around, nothing-live}
 use Rattle.reader.specs.AroundChunk.{slots-count, finerParts, around-finer, tick-law, gone-rows, gone-slots, gone-total, listed-words}

@@ -1,7 +1,7 @@
 -- The words of a state around one of its chunks: the area in parts, the chunk's row of the table and where its stack and its
 -- unread symbols stand; and how long the area is. All for an area that may have more words than the state needs.
 -- docs/AREA.md gives the places.
--- Rests on MoveWords and BlockWords, on area's Layout, Kept, Encoded and Lengths, on machine's Allowed, and on laws' Parts.
+-- Rests on MoveWords and BlockWords, on area's Layout, Kept and Lengths and shape's Encoded, on machine's Allowed, and on laws' Parts.
 --
 -- Main definitions: partsAround, finerParts.
 -- Main statements: around, around-finer, tick-law; status-word, from-word, head-word, end-word, marks-word, stack-stands, next-symbol,
@@ -27,7 +27,7 @@ use Rattle.area.specs.Layout.{need, size, block, stackSize, stackWords, marks, 
 use Rattle.area.specs.Layout.{total, rows, slots, front, tailWords, encode, tableAt, rowWord, slotWord, madeAtWord}
 use Rattle.area.specs.Lengths.{length-stack, length-row, length-rows, length-slots, rows-append, slots-append, total-append, within-slots, encode-length}
 use Rattle.area.specs.Kept.{Kept}
-use Rattle.area.specs.Encoded.{tokens-at, chunks-at}
+use Rattle.shape.specs.Encoded.{tokens-at, chunks-at}
 use Rattle.reader.specs.MoveWords.{fromOf, headOf, endOf, marksOf, slotAt, tickWords, Stands}
 use Rattle.reader.specs.BlockWords.{first-word, mark-word, size-word}
 

@@ -16,7 +16,7 @@ use Rattle.machine.specs.AllowedExactly.{rests-from}
 use Rattle.machine.specs.GivenExactly.{LiveAtRest}
 use Rattle.area.specs.Layout.{need, decode, rowWord, slotsAt}
 use Rattle.area.specs.Shape.{inShape}
-use Rattle.area.specs.InShape.{in-shape-parts, in-shape-holds}
+use Rattle.shape.specs.InShape.{in-shape-parts, in-shape-holds}
 use Rattle.reader.specs.MoveWords.{headOf, endOf}
 use Rattle.reader.specs.AroundChunk.{slots-within}
 use Rattle.reader.specs.OneMove.{Held, live-held, held-live, runs-held, rests-held, Movable}

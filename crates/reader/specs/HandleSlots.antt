@@ -2,7 +2,7 @@
 -- the left side that replaces it covers just these slots, and its value is their span.
 -- Document 01, "Moves of a chunk": "the handle runs from the topmost marked one to the top, with the nonterminal just below that mark
 -- if there is one"; "The report": "rule, first place, place after the last".
--- Rests on KeptAround, Readings and MoveWords, on area's Tiling and RowAfterTurn, and on machine's AllowedExactly.
+-- Rests on KeptAround, Readings and MoveWords, on shape's Tiling and RowAfterTurn, and on machine's AllowedExactly.
 --
 -- Main definitions: SomeHandle, Covers.
 -- Main statements: stack-words, stack-slots, stack-marks, upper-stands; handle-splits, handle-marks, marks-none, marks-some; handle-covers,
@@ -26,8 +26,8 @@ use Rattle.machine.specs.AllowedExactly.{handle-symbols, HandleView, no-handle,
 use Rattle.area.specs.Layout.{size, stackSize, stackWords, marks, total}
 use Rattle.area.specs.Lengths.{length-stack, stack-size, tiles-end}
 use Rattle.area.specs.Kept.{Lies, first-end, last-end, within, Tiles, tile, Kept}
-use Rattle.area.specs.Tiling.{tiles-split, tiles-join, tiles-replaced}
-use Rattle.area.specs.RowAfterTurn.{handle-first}
+use Rattle.shape.specs.Tiling.{tiles-split, tiles-join, tiles-replaced}
+use Rattle.shape.specs.RowAfterTurn.{handle-first}
 use Rattle.reader.specs.MoveWords.{Stands}
 use Rattle.reader.specs.Readings.{no-marks}
 use Rattle.reader.specs.KeptAround.{stack-tiles, unread-tiles, marks-fine, stack-terminals}

@@ -25,7 +25,7 @@ use Rattle.area.specs.Layout.{row, total, rows, slots, zeros, front, tailWords,
 use Rattle.area.specs.Lengths.{length-stack, length-unread, length-rows, length-slots, rows-append, slots-append, total-append, unread-append, stack-size}
 use Rattle.area.specs.StartWords.{words-append}
 use Rattle.area.specs.Kept.{Kept}
-use Rattle.area.specs.Encoded.{chunks-at}
+use Rattle.shape.specs.Encoded.{chunks-at}
 use Rattle.reader.specs.MoveWords.{fromOf, headOf, unmarkWords, goneWords, oneWords, joinWords, Joinable}
 use Rattle.reader.specs.AroundChunk.{around, tick-law, gone-rows, gone-slots, gone-total, from-word, head-word, end-word, few-moves, slots-within, ends-within, number-within}
 

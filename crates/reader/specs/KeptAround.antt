@@ -1,7 +1,7 @@
 -- What the rules of a state say around one of its chunks: its stack and its unread symbols lie side by side on its slots, its
 -- symbols are in range, no mark stands on a #, and what lies after it.
 -- docs/AREA.md, rules (d) to (g) and (i).
--- Rests on area's Kept, Lengths, RowCounts and Tiling, and on machine's Allowed.
+-- Rests on area's Kept, Lengths and RowCounts and shape's Tiling, and on machine's Allowed.
 --
 -- Main statements: symbols-around, stack-tiles, unread-tiles, stack-ranged, unread-ranged, marks-fine, stack-terminals, nothing-live.
 use mathlib.Core.Path.{_≡_, refl, ap, _∙_}
@@ -22,7 +22,7 @@ use Rattle.area.specs.Layout.{stackSize, total}
 use Rattle.area.specs.Kept.{Tiles, AllInRange, LastHolds, later-holds, Ending, whole, accepted, Kept}
 use Rattle.area.specs.Lengths.{stack-size, symbols-size, tiles-end}
 use Rattle.area.specs.RowCounts.{holds-some}
-use Rattle.area.specs.Tiling.{Split, tiles-split, ranged-split}
+use Rattle.shape.specs.Tiling.{Split, tiles-split, ranged-split}
 
 -- ---- lists of chunks
 

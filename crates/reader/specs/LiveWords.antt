@@ -21,7 +21,7 @@ use Rattle.machine.specs.States.{State}
 use Rattle.machine.specs.Allowed.{AllGone, no-number, one-gone, Live, NextLive}
 use Rattle.machine.specs.AllowedExactly.{LiveView, is-live, not-live, live-view, live-drop}
 use Rattle.area.specs.Layout.{encode, rowWord, statusWord}
-use Rattle.area.specs.Encoded.{chunks-at}
+use Rattle.shape.specs.Encoded.{chunks-at}
 use Rattle.reader.specs.AroundChunk.{status-word, status-some, gone-word, chunks-count, number-within}
 
 abbrev pub isLive : Option (Chunk Span) → Bool

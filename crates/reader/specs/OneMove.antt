@@ -1,7 +1,7 @@
 -- An area that holds a state, as one move, one join and a run of moves find it and leave it: what each function that writes or reads
 -- asks of the words, from the state; and that the words afterwards hold the state after the call.
 -- Document 01, "Moves of a chunk"; "Any other state that keeps the shape rules gets the move named above."
--- Rests on MoveLaw, JoinLaw, ReadLaw and LiveWords, and on area's InShape and Safe.
+-- Rests on MoveLaw, JoinLaw, ReadLaw and LiveWords, and on shape's InShape and Safe.
 --
 -- Main definitions: Held, Movable, Joining.
 -- Main statements: held-in-shape; live-held, held-live, runs-held, rests-held, next-held; can-push, can-stick, row-there, can-accept, can-reduce,
@@ -29,8 +29,8 @@ use Rattle.area.specs.Kept.{Kept}
 use Rattle.area.specs.Shape.{grammarInShape, inShape}
 use Rattle.area.specs.WordsOfShape.{terminals-fit}
 use Rattle.area.specs.EndMarkOfShape.{grammar-in-shape}
-use Rattle.area.specs.InShape.{in-shape-parts, in-shape-holds}
-use Rattle.area.specs.Safe.{safe-turned}
+use Rattle.shape.specs.InShape.{in-shape-parts, in-shape-holds}
+use Rattle.shape.specs.Safe.{safe-turned}
 use Rattle.reader.specs.MoveWords.{fromOf, headOf, endOf, marksOf, joinWords, Pushable, Stickable, Acceptable, Joinable, Reducible}
 use Rattle.reader.specs.ReadWords.{Holds, HasStack, HandleStarts, liveAfter}
 use Rattle.reader.specs.MatchWords.{handleWords, matchWords, Whole}

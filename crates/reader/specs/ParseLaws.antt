@@ -1,7 +1,7 @@
 -- The one-call parse by what its code finds in the words: a row that has started, read until it rests, and what its words then say.
 -- Document 01: "The front-to-back parse is C = 1, also offered as one call"; 17 to 20 "the finished row stuck so"; "The report": an uncut row's
 -- reductions are made in the report's order, so that nothing is left to put in order.
--- Rests on ParseCall and RunMoves, on results' UncutRow and ReadThrough, area's Start, StartKept, Safe, InShape and Decode, and outcomes' OutcomeWords.
+-- Rests on ParseCall and RunMoves, on results' UncutRow and ReadThrough, area's Start and StartKept and shape's Safe, InShape and Decode, and outcomes' OutcomeWords.
 --
 -- Main definitions: Loaded (a grammar), Begun (a row has started), Finished (its words once it rests), Parsed.
 -- Main statements: begun-runs, begun-few, begun-parsed; not-loaded, loaded, not-started, begun, row-parses.
@@ -37,15 +37,15 @@ use Rattle.results.specs.UncutRow.{axiom-of-run, made-in-order}
 use Rattle.area.specs.Layout.{need, zeros, encode, decode, statusWord, madeAtWord, readMade}
 use Rattle.area.specs.Kept.{Kept}
 use Rattle.area.specs.Lengths.{within-slots, few-reductions, encode-length}
-use Rattle.area.specs.Encoded.{chunks-at, low-moves-at, rest-at}
+use Rattle.shape.specs.Encoded.{chunks-at, low-moves-at, rest-at}
 use Rattle.area.specs.Shape.{grammarInShape}
-use Rattle.area.specs.ShapeExactly.{HoldsState}
+use Rattle.shape.specs.ShapeExactly.{HoldsState}
 use Rattle.area.specs.WordsOfShape.{terminals-fit}
 use Rattle.area.specs.EndMarkOfShape.{grammar-in-shape, own-shape}
 use Rattle.area.specs.StartKept.{no-end}
-use Rattle.area.specs.InShape.{in-shape-holds, holds-in-shape}
-use Rattle.area.specs.Decode.{decode-encode}
-use Rattle.area.specs.Safe.{safe-run, safe-start}
+use Rattle.shape.specs.InShape.{in-shape-holds, holds-in-shape}
+use Rattle.shape.specs.Decode.{decode-encode}
+use Rattle.shape.specs.Safe.{safe-run, safe-start}
 use Rattle.area.specs.Start.{Startable, startAnswer, startedArea, startArea, starts-exactly}
 use Rattle.outcomes.specs.OutcomeWords.{wordsOutcome, Reportable, outcome-words, reportable}
 use Rattle.reader.specs.ParseCall.{ranOutcome, parseOutcome, thenStart, parseBegun, parseAnswer, parseArea, parseOut}

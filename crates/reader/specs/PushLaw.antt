@@ -19,7 +19,7 @@ use Rattle.machine.specs.Allowed.{Live}
 use Rattle.area.specs.Layout.{size, block, markWord, stackSize, stackWords, marks, unreadSize, unreadWords, statusWord, total, tailWords, encode, tableAt, slotWord}
 use Rattle.area.specs.Lengths.{length-block, length-stack, length-rows, length-slots}
 use Rattle.area.specs.Kept.{Kept}
-use Rattle.area.specs.Encoded.{chunks-at}
+use Rattle.shape.specs.Encoded.{chunks-at}
 use Rattle.reader.specs.MoveWords.{headOf, marksOf, putWords, pushWords, Pushable}
 use Rattle.reader.specs.AroundChunk.{finerParts, around-finer, tick-law, listed-words, read-words, head-word, marks-word}
 use Rattle.reader.specs.AroundChunk.{next-size, number-within, few-moves, slots-within, ends-within}

@@ -29,9 +29,9 @@ use Rattle.machine.specs.States.{State}
 use Rattle.machine.specs.TableOf.{relationFrom, relationAt}
 use Rattle.machine.specs.Allowed.{HandleAbove, Live}
 use Rattle.area.specs.Layout.{stackSize, encode}
-use Rattle.area.specs.Encoded.{chunks-at}
+use Rattle.shape.specs.Encoded.{chunks-at}
 use Rattle.area.specs.Kept.{AllInRange, in-range, Kept}
-use Rattle.area.specs.Tiling.{ranged-split}
+use Rattle.shape.specs.Tiling.{ranged-split}
 use Rattle.area.specs.Shape.{ruleA}
 use Rattle.area.specs.WordsOfShape.{rule-a-exactly}
 use Rattle.reader.specs.MoveWords.{fromOf, headOf, slotAt}

@@ -2,7 +2,7 @@
 -- what the count of its marks says of a handle.
 -- Document 01, "Moves of a chunk": "the handle runs from the topmost marked one to the top, with the nonterminal just below that mark
 -- if there is one"; "Takes, no mark on the stack".
--- Rests on ReadWords, on machine's Allowed and on area's Kept and Tiling.
+-- Rests on ReadWords, on machine's Allowed and on area's Kept and shape's Tiling.
 --
 -- Main statements: told-ranged, told-upper, handle-below, no-marks.
 use mathlib.Core.Path.{_≡_, refl}
@@ -15,7 +15,7 @@ use Rattle.machine.specs.Allowed.{TopNonterminal, top-nonterminal, NoMark, empt
 use Rattle.machine.specs.Allowed.{from-nonterminal, from-mark, up-to-unmarked, up-to-nonterminal}
 use Rattle.area.specs.Layout.{marks}
 use Rattle.area.specs.Kept.{AllInRange, in-range}
-use Rattle.area.specs.Tiling.{ranged-split}
+use Rattle.shape.specs.Tiling.{ranged-split}
 use Rattle.reader.specs.ReadWords.{Told, belowMark, handleBelow}
 
 -- a grammar has at most 63 terminals

@@ -2,7 +2,7 @@
 -- Document 01, "Moves of a chunk": "the handle runs from the topmost marked one to the top, with the nonterminal just below that mark
 -- if there is one. If a rule has this right side, replace it by the left side of the least such rule, b staying unread"; "The report":
 -- "rule, first place, place after the last".
--- Rests on AroundChunk, HandleSlots, BlockWords and MoveWords, on area's Encoded and on machine's Allowed.
+-- Rests on AroundChunk, HandleSlots, BlockWords and MoveWords, on shape's Encoded and on machine's Allowed.
 --
 -- Main statements: reduce-law, reduce-ready.
 use mathlib.Core.Path.{_≡_, refl, sym, ap, _∙_}
@@ -25,7 +25,7 @@ use Rattle.machine.specs.Allowed.{HandleAbove, Live}
 use Rattle.area.specs.Layout.{size, block, stackSize, stackWords, marks, unreadSize, unreadWords, statusWord, total, zeros, encode, tableAt}
 use Rattle.area.specs.Lengths.{length-block, length-stack, length-unread, length-rows, length-slots, length-report, within-slots}
 use Rattle.area.specs.Kept.{Kept}
-use Rattle.area.specs.Encoded.{tokens-at, chunks-at, count-at}
+use Rattle.shape.specs.Encoded.{tokens-at, chunks-at, count-at}
 use Rattle.reader.specs.MoveWords.{headOf, slotAt, Stands, clearedWords, laidWords, notedWords, replacedWords, reduceWords, Reducible}
 use Rattle.reader.specs.BlockWords.{laid}
 use Rattle.reader.specs.HandleSlots.{stack-words, stack-slots, stack-marks, handle-splits, handle-marks, handle-covers, upper-stands, reductions-fit}

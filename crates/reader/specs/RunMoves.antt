@@ -30,7 +30,7 @@ use Rattle.machine.specs.Counts.{run-moving, moving-step, moving-rests}
 use Rattle.area.specs.Layout.{need, encode, decode, slotsAt}
 use Rattle.area.specs.Kept.{Kept}
 use Rattle.area.specs.Shape.{inShape}
-use Rattle.area.specs.Safe.{safe-turned}
+use Rattle.shape.specs.Safe.{safe-turned}
 use Rattle.reader.specs.MoveLaw.{Stepped, runs-on}
 use Rattle.reader.specs.OneMove.{Held, Movable, held-live, live-stepped, moves-so}
 use Rattle.reader.specs.Moved.{Moved, liveIn, restsIn, live-status}

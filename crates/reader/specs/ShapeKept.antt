@@ -1,7 +1,7 @@
 -- *Shape kept*: a step, a run and a join of an area in shape leave it in shape, whatever state it holds and whatever they answer.
 -- Document 01: 15 is never given "for a state reached from such a load and start with those same words and matrix"; "Any other state
 -- that keeps the shape rules gets the move named above." So a call that follows a call never answers 15 where the first did not.
--- Rests on Calls, and on area's Safe and InShape. Every lent word is below 65,536; of the area's words one is asked.
+-- Rests on Calls, and on shape's Safe and InShape. Every lent word is below 65,536; of the area's words one is asked.
 --
 -- Main statements: step-keeps, run-keeps, join-keeps.
 use mathlib.Core.Path.{_≡_, refl}
@@ -17,8 +17,8 @@ use Rattle.machine.specs.Schedules.{Turned, by-step, by-join}
 use Rattle.area.specs.Layout.{decode}
 use Rattle.area.specs.Kept.{Kept}
 use Rattle.area.specs.Shape.{inShape}
-use Rattle.area.specs.Safe.{safe-turned, safe-run}
-use Rattle.area.specs.InShape.{in-shape-parts, in-shape-holds, holds-in-shape}
+use Rattle.shape.specs.Safe.{safe-turned, safe-run}
+use Rattle.shape.specs.InShape.{in-shape-parts, in-shape-holds, holds-in-shape}
 use Rattle.reader.specs.Calls.{withState, calledArea, ranArea, stepCall, stepArea, joinCall, joinArea, runCall, runArea}
 
 module _ (words bytes area : List ℕ) (low : getD area 2 0 < 65536) (shape : inShape words bytes area ≡ true) (c : ℕ) where

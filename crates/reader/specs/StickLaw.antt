@@ -17,7 +17,7 @@ use Rattle.machine.specs.Allowed.{Live}
 use Rattle.area.specs.Layout.{statusWord, encode, tableAt}
 use Rattle.area.specs.Lengths.{length-rows}
 use Rattle.area.specs.Kept.{Kept}
-use Rattle.area.specs.Encoded.{chunks-at}
+use Rattle.shape.specs.Encoded.{chunks-at}
 use Rattle.reader.specs.MoveWords.{stickWords, Stickable}
 use Rattle.reader.specs.AroundChunk.{partsAround, around, tick-law, listed-words, read-words, number-within, few-moves, slots-within}
 

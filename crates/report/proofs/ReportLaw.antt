@@ -11,7 +11,7 @@ use Rattle.refusals.specs.declared.ReportAnswer.the-variants.{Refused}
 use Rattle.machine.specs.States.{refusedRow, outcome}
 use Rattle.area.specs.Layout.{decode}
 use Rattle.area.specs.Shape.{inShape}
-use Rattle.area.specs.InShape.{in-shape-holds}
+use Rattle.shape.specs.InShape.{in-shape-holds}
 use Rattle.report.specs.ReportCall.{reportOutcome, reportAnswer, reportOut}
 use Rattle.outcomes.specs.OutcomeWords.{wordsOutcome, Reportable, outcome-words, reportable}
 use Rattle.outcomes.specs.OutcomeTests.{Answered, refuses}

@@ -1,7 +1,7 @@
 -- All the shape rules together, in the form in which calls on a lent area use them: words, matrix and area that keep them hold a state,
 -- the one that the area decodes to; and every state that keeps the rules of a state is in shape.
 -- Document 01, 15 BAD STATE: "grammar, matrix or work area breaks the shape rules listed in docs/".
--- Rests on Decode, and on WordsOfShape for the number of terminals.
+-- Rests on Decode, and on area's WordsOfShape for the number of terminals.
 --
 -- Main statements: in-shape-parts, in-shape-holds, holds-in-shape, in-shape-exactly.
 use mathlib.Core.Path.{_≡_}
@@ -15,14 +15,14 @@ use Rattle.laws.specs.Passed.{both}
 use Rattle.language.specs.Trees.{Span}
 use Rattle.language.specs.Words.{countT, countN}
 use Rattle.machine.specs.States.{State}
 use Rattle.area.specs.Layout.{encode, decode}
 use Rattle.area.specs.Kept.{Kept}
 use Rattle.area.specs.Shape.{grammarInShape, areaInShape, inShape}
 use Rattle.area.specs.WordsOfShape.{terminals-fit}
 use Rattle.area.specs.EndMarkOfShape.{grammar-in-shape}
-use Rattle.area.specs.ShapeOfKept.{shape-complete}
-use Rattle.area.specs.ShapeExactly.{HoldsState, Stated, shape-exactly}
-use Rattle.area.specs.Decode.{decoded}
+use Rattle.shape.specs.ShapeOfKept.{shape-complete}
+use Rattle.shape.specs.ShapeExactly.{HoldsState, Stated, shape-exactly}
+use Rattle.shape.specs.Decode.{decoded}
 
 module _ (words matrix : List ℕ) where
   few-terminals : grammarInShape words matrix ≡ true → countT words < 256

@@ -23,15 +23,15 @@ use Rattle.language.specs.Trees.{Span}
 use Rattle.machine.specs.Entries.{Unread, Entry, unmarked}
 use Rattle.machine.specs.Moves.{noRelation, noRule, notAxiom, sideBySide}
 use Rattle.machine.specs.Chunks.{Status, running, stuck, Chunk}
 use Rattle.area.specs.declared.shape.Scan.{Scan}
 use Rattle.area.specs.declared.shape.Walk.{Walk}
 use Rattle.area.specs.Layout.{stackSize, stackWords, marks, unreadSize, unreadWords, chunkSize, chunkWords, statusWord, row, total, rows, slots, slotsAt}
 use Rattle.area.specs.Kept.{StuckFine, not-stuck, stuck-fine}
-use Rattle.area.specs.Encoded.{slotsFrom}
+use Rattle.shape.specs.Encoded.{slotsFrom}
 use Rattle.area.specs.Shape.{side, sideFits, statusFits, goneFits, boundsFit, stuckFits, sidesFit, fallen, counted, liveLine, lineOf, walked}
-use Rattle.area.specs.Sides.{risingWords, placed-end, placed-at, Scanned, HoldsEntries, scan-reads}
-use Rattle.area.specs.Rising.{rising-stack, plain-unread, plain-of}
-use Rattle.area.specs.Walks.{ChunkFits, AllFit, no-more-fit, gone-fits, live-fits, side-passes}
+use Rattle.shape.specs.Sides.{risingWords, placed-end, placed-at, Scanned, HoldsEntries, scan-reads}
+use Rattle.shape.specs.Rising.{rising-stack, plain-unread, plain-of}
+use Rattle.shape.specs.Walks.{ChunkFits, AllFit, no-more-fit, gone-fits, live-fits, side-passes}
 
 -- ---- one row of the table
 

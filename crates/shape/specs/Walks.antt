@@ -24,15 +24,15 @@ use Rattle.machine.specs.Chunks.{Status, running, stuck, Chunk}
 use Rattle.machine.specs.States.{live}
 use Rattle.results.specs.RunsEnd.{terminalsOn, terminalsUnread}
 use Rattle.results.specs.Bounded.{oneIfRunning, unreadIn, symbolsIn, terminalsIn, runningIn}
 use Rattle.area.specs.declared.shape.Scan.{Scan}
 use Rattle.area.specs.declared.shape.Walk.{Walk}
 use Rattle.area.specs.Layout.{stackSize, stackWords, marks, unreadSize, unreadWords, chunkSize, chunkWords, statusWord, row, total, rows, slots}
 use Rattle.area.specs.Kept.{StuckFine, not-stuck, stuck-fine}
 use Rattle.area.specs.Lengths.{length-stack, length-chunk, length-row}
-use Rattle.area.specs.Encoded.{slotsFrom, slots-past}
+use Rattle.shape.specs.Encoded.{slotsFrom, slots-past}
 use Rattle.area.specs.Shape.{side, statusFits, boundsFit, stuckFits, sidesFit, counted, lineOf, walked}
-use Rattle.area.specs.Sides.{risingWords, Placed, placed-end, Scanned, scan-passes}
-use Rattle.area.specs.Rising.{rising-stack, plain, plain-unread}
+use Rattle.shape.specs.Sides.{risingWords, Placed, placed-end, Scanned, scan-passes}
+use Rattle.shape.specs.Rising.{rising-stack, plain, plain-unread}
 
 -- a live chunk whose first slot is `from`, by rules (d) to (h)
 pub record ChunkFits (t N n from : ℕ) (c : Chunk Span) : Type 0 where

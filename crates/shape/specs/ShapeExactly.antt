@@ -24,16 +24,16 @@ use Rattle.language.specs.Reports.{reportWords}
 use Rattle.machine.specs.Chunks.{Chunk}
 use Rattle.machine.specs.States.{State, live}
 use Rattle.results.specs.Bounded.{mostMoves}
 use Rattle.area.specs.declared.shape.Walk.{Walk}
 use Rattle.area.specs.Layout.{need, front, total, rows, slots, zeros, encode, slotsAt, madeAtWord}
 use Rattle.area.specs.Kept.{FirstLive, Kept}
 use Rattle.area.specs.Shape.{ruleC, walkOf, firstFits, endFits, ruleI, ruleJ, potentialOf, blank, ruleK, areaInShape}
-use Rattle.area.specs.Walks.{AllFit}
-use Rattle.area.specs.WalksRead.{walk-reads}
-use Rattle.area.specs.Chunkwise.{tiles-from, ranged-from, fine-from, stuck-from}
-use Rattle.area.specs.Encoded.{slotsFrom, area-is}
-use Rattle.area.specs.Rules.{Counts, total-within, walk-counts, potential-is, first-of, end-of, blank-reads}
-use Rattle.area.specs.ShapeOfKept.{shape-complete}
+use Rattle.shape.specs.Walks.{AllFit}
+use Rattle.shape.specs.WalksRead.{walk-reads}
+use Rattle.shape.specs.Chunkwise.{tiles-from, ranged-from, fine-from, stuck-from}
+use Rattle.shape.specs.Encoded.{slotsFrom, area-is}
+use Rattle.shape.specs.Rules.{Counts, total-within, walk-counts, potential-is, first-of, end-of, blank-reads}
+use Rattle.shape.specs.ShapeOfKept.{shape-complete}
 
 -- an area holds this state, which keeps the rules; only its first words are the state's, the rest may be any
 pub record HoldsState (t N : ℕ) (words : List ℕ) (s : State Span) : Type 0 where

@@ -24,18 +24,18 @@ use Rattle.machine.specs.Entries.{Unread, terminalAt, nonterminalAt, Entry, ter
 use Rattle.machine.specs.Moves.{noRelation, noRule, notAxiom, sideBySide}
 use Rattle.machine.specs.Chunks.{Status, running, stuck, Chunk}
 use Rattle.machine.specs.States.{State}
 use Rattle.area.specs.Layout.{need, size, block, markWord, stackSize, stackWords, unreadWords, chunkSize, chunkWords, statusWord, row, rows, slots, encode, rowWord, slotsAt}
 use Rattle.area.specs.Layout.{slotWord, madeAtWord, spanAt, unreadOf, stackEntryOf, unreadAt, stackEntryAt, readUnread, readStack, statusOf, chunkOf, readMade, decode}
 use Rattle.area.specs.Kept.{Lies, first-end, last-end, within, SymbolInRange, Kept}
 use Rattle.area.specs.Lengths.{length-row, length-stack, length-chunk, length-block, within-slots, encode-length}
-use Rattle.area.specs.Blocks.{EntryStands, word}
-use Rattle.area.specs.Sides.{risingWords, Placed, no-more, then-stands, placed-end}
-use Rattle.area.specs.Rising.{rising-stack, plain-unread}
-use Rattle.area.specs.Walks.{ChunkFits, AllFit, no-more-fit, gone-fits, live-fits, status-word}
-use Rattle.area.specs.Chunkwise.{kept-fits}
-use Rattle.area.specs.Encoded.{area, slotsFrom, slots-past, fromSlots, fromUnusedSlots, fromUnusedMade, chunks-at, moves-at, count-at, table-at, slots-at, made-at}
+use Rattle.shape.specs.Blocks.{EntryStands, word}
+use Rattle.shape.specs.Sides.{risingWords, Placed, no-more, then-stands, placed-end}
+use Rattle.shape.specs.Rising.{rising-stack, plain-unread}
+use Rattle.shape.specs.Walks.{ChunkFits, AllFit, no-more-fit, gone-fits, live-fits, status-word}
+use Rattle.shape.specs.Chunkwise.{kept-fits}
+use Rattle.shape.specs.Encoded.{area, slotsFrom, slots-past, fromSlots, fromUnusedSlots, fromUnusedMade, chunks-at, moves-at, count-at, table-at, slots-at, made-at}
 use Rattle.area.specs.Shape.{areaInShape}
-use Rattle.area.specs.ShapeExactly.{HoldsState, shape-state}
+use Rattle.shape.specs.ShapeExactly.{HoldsState, shape-state}
 
 -- ---- a symbol
 

@@ -17,15 +17,15 @@ use Rattle.language.specs.Trees.{Span}
 use Rattle.machine.specs.Chunks.{Chunk}
 use Rattle.machine.specs.States.{State, live}
 use Rattle.results.specs.Bounded.{terminalsIn, potential, mostMoves}
 use Rattle.area.specs.declared.shape.Walk.{Walk}
 use Rattle.area.specs.Layout.{need, total, encode, slotsAt, madeAtWord}
 use Rattle.area.specs.Kept.{FirstLive, first-live, Kept}
 use Rattle.area.specs.Lengths.{encode-length, total-is, within-slots}
 use Rattle.area.specs.Shape.{ruleC, walkOf, firstFits, endFits, ruleI, ruleJ, blank, ruleK, areaInShape}
-use Rattle.area.specs.Chunkwise.{kept-fits}
-use Rattle.area.specs.Encoded.{area, slotsFrom, fromSlots, fromUnusedSlots, fromMade, tokens-at, chunks-at, moves-at}
-use Rattle.area.specs.Encoded.{count-at, table-at, slots-at, unused-slots-at, unused-made-at}
-use Rattle.area.specs.Rules.{Counts, walk-counts, potential-is, first-to, end-to, blank-zeros}
+use Rattle.shape.specs.Chunkwise.{kept-fits}
+use Rattle.shape.specs.Encoded.{area, slotsFrom, fromSlots, fromUnusedSlots, fromMade, tokens-at, chunks-at, moves-at}
+use Rattle.shape.specs.Encoded.{count-at, table-at, slots-at, unused-slots-at, unused-made-at}
+use Rattle.shape.specs.Rules.{Counts, walk-counts, potential-is, first-to, end-to, blank-zeros}
 
 some-chunk : {chunks : List (Option (Chunk Span))} → FirstLive chunks → 1 ≤ length chunks
 some-chunk (first-live h) = omega arith

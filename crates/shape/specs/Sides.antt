@@ -18,11 +18,11 @@ use Rattle.laws.specs.Picks.{pick}
 use Rattle.language.specs.Trees.{Span}
 use Rattle.machine.specs.Entries.{Entry, terminalOn, nonterminalOn, symbol, unmarked}
 use Rattle.results.specs.RunsEnd.{oneUnlessEnd, terminalsOn}
 use Rattle.area.specs.declared.shape.Scan.{Scan}
 use Rattle.area.specs.Layout.{more, size, block, markWord, stackSize, marks}
 use Rattle.area.specs.Kept.{SymbolInRange}
 use Rattle.area.specs.Shape.{tag, oneIfTerminal, scanSlot, scanned, freshScan, sideFits}
-use Rattle.area.specs.Blocks.{lastSlots, block-slots, EntryStands, word, Opening, tests-to-stands, passedOver, scan-block, SlotView, starts, goes-on, slot-view}
+use Rattle.shape.specs.Blocks.{lastSlots, block-slots, EntryStands, word, Opening, tests-to-stands, passedOver, scan-block, SlotView, starts, goes-on, slot-view}
 
 -- entries from the bottom up, as their words stand
 abbrev pub risingWords : List (Entry Span) → List ℕ
