@@ -355,11 +355,27 @@ static void short_row_times(int repeats) {
     printf("  one check of such a row: %.2f us, with 4,096 bytes of the matrix and %zu words of the area\n", t.checks / t.checked / 1000, area_words);
 }
 
+/* `bench read ROW READER TIMES`: a row read so many times, and nothing timed, for bench/count.sh, which counts instructions. READER is 0 for
+ * parse, 1 for the hand-written parser and 2 for Bison's; ROW is 0, 1 or 2, in the order below. */
+static void only_read(int row, int which, int times) {
+    static void (*const rows[])(void) = {comma_list, nested, mixed};
+    static const reader readers[] = {by_parse, by_hand, by_bison};
+    rows[row]();
+    for (int i = 0; i < times; i++) {
+        readers[which]();
+    }
+    printf("%zu\n", count);
+}
+
 int main(int argc, char **argv) {
-    int repeats = argc > 1 ? atoi(argv[1]) : 500;
+    int repeats = argc == 2 ? atoi(argv[1]) : 500;
     uint32_t value;
     if (grugalash_load(words, LENGTH(words), matrix, sizeof matrix, &value) != 0) {
         fail("load refused grammar K");
+    }
+    if (argc == 5) {
+        only_read(atoi(argv[2]), atoi(argv[3]), atoi(argv[4]));
+        return 0;
     }
     long_row("a comma list", comma_list, repeats);
     long_row("brackets nested 5,461 deep", nested, repeats);

@@ -31,8 +31,8 @@ CRATES = os.path.join(ROOT, "crates")
 
 # files whose `pub fn` are the library's public functions
 CONTRACTS = [
-    "refusals/src/lib.rt", "table/src/lib.rt", "area/src/lib.rt", "reader/src/lib.rt", "report/src/lib.rt",
-    "text/src/reading.rt", "text/src/writing.rt", "grugalash/src/lib.rt",
+    "refusals/src/lib.rt", "words/src/lib.rt", "table/src/lib.rt", "matrix/src/lib.rt", "area/src/lib.rt", "start/src/lib.rt", "reader/src/lib.rt", "parse/src/lib.rt", "report/src/lib.rt",
+    "text/src/reading.rt", "lines/src/lib.rt", "grugalash/src/lib.rt",
 ]
 PUBLIC = re.compile(r'^pub (?:extern "C" )?fn (\w+)')
 # the final statements: a file of specs, and the names in it; None for every public theorem of the file
@@ -48,14 +48,14 @@ TIED = {
     ("language", "CheckHead", "headStage"): [], ("language", "CheckContents", "contentsStage"): [], ("language", "CheckSymbols", "symbolStage"): [],
     ("language", "CheckForm", "formStage"): [], ("language", "CheckTwins", "twinStage"): [], ("language", "Conflicts", "conflictStage"): [],
     ("language", "Loads", "matrixRoom"): [], ("language", "Loads", "pastTheLast"): [],
-    ("area", "Start", "shapeStage"): [], ("area", "Start", "emptyStage"): [], ("area", "Start", "lengthStage"): [],
-    ("area", "Start", "tokenStage"): [], ("area", "Start", "cutStage"): [], ("area", "Start", "roomStage"): [],
+    ("start", "Start", "shapeStage"): [], ("start", "Start", "emptyStage"): [], ("start", "Start", "lengthStage"): [],
+    ("start", "Start", "tokenStage"): [], ("start", "Start", "cutStage"): [], ("start", "Start", "roomStage"): [],
     ("language", "Stages", "checked"): [("language", "Stages", "given-exactly")],
     ("machine", "States", "step"): [("machine", "AllowedExactly", "step-exactly")],
     ("machine", "States", "join"): [("machine", "AllowedExactly", "join-exactly")],
     ("machine", "States", "run"): [("machine", "Counts", "run-exactly")],
     ("area", "Shape", "areaInShape"): [("shape", "InShape", "in-shape-exactly")],
-    ("area", "Layout", "decode"): [("shape", "Decode", "decode-encode")],
+    ("layout", "Layout", "decode"): [("shape", "Decode", "decode-encode")],
     ("text", "Feeding", "fedAll"): [("text", "TextFed", "text-fed"), ("text", "TextFed", "pieces-read")],
     ("text", "Feeding", "fed"): [], ("text", "Feeding", "finishOf"): [], ("text", "Feeding", "answerOf"): [],
 }
@@ -64,7 +64,7 @@ FILES_BEGIN, FILES_END = "<!-- files begin -->", "<!-- files end -->"
 SECTIONS = ["What the library covers", "Numbers", "The grammar words", "Sets and matrix", "Moves of a chunk", "The report", "Refusal numbers", "Sample rows",
             "Errors my students make", "Forms to use in the code", "How far promises go"]
 KEYWORDS = {"abbrev", "unfoldable", "data", "record", "bad", "ensures", "use"}
-ORDER = ["refusals", "language", "laws", "machine", "results", "table", "area", "shape", "outcomes", "reader", "report", "demands", "text", "grugalash", "rows", "vectors"]
+ORDER = ["refusals", "language", "laws", "machine", "results", "words", "table", "layout", "matrix", "area", "start", "shape", "outcomes", "moving", "reader", "parse", "report", "demands", "text", "lines", "grugalash", "rows", "vectors"]
 
 HEAD = re.compile(r"^( *)(?:pub +)?(abbrev|unfoldable|data|record|module)\b(?: +pub)? +([^\s{]\S*)")
 THEOREM = re.compile(r"^( *)pub +([^\s:]+) *:")

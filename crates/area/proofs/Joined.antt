@@ -11,12 +11,12 @@ use native.Mathlib.Decide.{decLe}
 use mir.Val.{boolByte}
 use lib.Dec.{leb, ltb, eqb}
 use lib.ListN.{length, getD, drop}
-use borrow.Author.Tests.{eq-eqb, ne-eqb, lt-leb, le-leb}
+use borrow.Author.Tests.{lt-leb, le-leb}
 use Rattle.laws.specs.Picks.{pick, allOf}
+use Rattle.layout.specs.Layout.{need, slotsAt, madeAtWord}
 use Rattle.area.specs.declared.shape.Scan.{Scan}
 use Rattle.area.specs.declared.shape.Walk.{Walk}
-use Rattle.area.specs.Layout.{need, slotsAt, madeAtWord}
-use Rattle.area.specs.Shape.{byteFits, ruleC, symbolFits, placeFits, tag, oneIfTerminal, broken, opened, inner, sideFits, statusFits, goneFits, boundsFit}
+use Rattle.area.specs.Shape.{ruleC, symbolFits, placeFits, tag, oneIfTerminal, broken, opened, inner, sideFits, statusFits, goneFits, boundsFit}
 use Rattle.area.specs.Shape.{stuckFits, sidesFit, firstFits, endFits, ruleI, ruleJ, blank, ruleK, walkFits}
 
 -- ---- every test of a list
@@ -96,45 +96,6 @@ both false b = refl
 unless : (a b : Bool) → (not a && b) ≡ pick a false b
 unless true b = refl
 unless false b = refl
-
-either : (a b : Bool) → (a || b) ≡ pick a true b
-either true b = refl
-either false b = refl
-
-module _ {A : Type 0} (x y : A) where
-  either-left : (a b : Bool) → (a || b) ≡ true → x ≡ pick a x (pick b x y)
-  either-left true b h = refl
-  either-left false true h = refl
-  either-left false false h = absurd (false≢true h)
-
-  neither-left : (a b : Bool) → (a || b) ≡ false → y ≡ pick a x (pick b x y)
-  neither-left true b h = absurd (true≢false h)
-  neither-left false true h = absurd (true≢false h)
-  neither-left false false h = refl
-
--- (b) a byte past t, and one within
-module _ (t a b x : ℕ) where
-  pub byte-past : (ltb t a || ltb t b) ≡ true → eqb x 0 ≡ byteFits t a b x
-  byte-past h = either-left _ _ (ltb t a) (ltb t b) h
-
-  abbrev byteWithin : Bool
-  byteWithin = pick (eqb a 0) (pick (eqb b 0) (eqb x 2) (leb x 1)) (pick (eqb b 0) (pick (eqb x 0) true (eqb x 3)) (leb x 3))
-
-  module _ (h : (ltb t a || ltb t b) ≡ false) where
-    within : byteWithin ≡ byteFits t a b x
-    within = neither-left _ _ (ltb t a) (ltb t b) h
-
-    pub byte-corner : a ≡ 0 → b ≡ 0 → eqb x 2 ≡ byteFits t a b x
-    byte-corner p q = let e : eqb x 2 ≡ byteWithin = simp (eq-eqb a 0 p, eq-eqb b 0 q) in e ∙ within
-
-    pub byte-first : a ≡ 0 → (b ≡ 0 → ⊥) → leb x 1 ≡ byteFits t a b x
-    byte-first p q = let e : leb x 1 ≡ byteWithin = simp (eq-eqb a 0 p, ne-eqb b 0 q) in e ∙ within
-
-    pub byte-last : (a ≡ 0 → ⊥) → b ≡ 0 → (eqb x 0 || eqb x 3) ≡ byteFits t a b x
-    byte-last p q = let e : pick (eqb x 0) true (eqb x 3) ≡ byteWithin = simp (ne-eqb a 0 p, eq-eqb b 0 q) in either (eqb x 0) (eqb x 3) ∙ (e ∙ within)
-
-    pub byte-inner : (a ≡ 0 → ⊥) → (b ≡ 0 → ⊥) → leb x 3 ≡ byteFits t a b x
-    byte-inner p q = let e : leb x 3 ≡ byteWithin = simp (ne-eqb a 0 p, ne-eqb b 0 q) in e ∙ within
 
 -- (c)
 pub sized-tests : (area : List ℕ) {n c : ℕ} → n ≡ getD area 0 0 → c ≡ getD area 1 0

@@ -1,8 +1,8 @@
 -- What the proofs of the shape check's functions share: each test one step on, and the bounds that its counts keep.
 -- Rests on specs' Shape and ShapeCode.
 --
--- Main statements: headed; bytes-fit, byte-fails; sized-of; scan-more, side-few; blank-more; countable, line-within.
-use Prim.Native.Nat.{ℕ, zero, suc, _+_, _*_, _-_, _/_, _%_, _<_, _≤_, _^_}
+-- Main statements: sized-of; shape-left, shape-kept; scan-more, side-few; blank-more; countable, line-within.
+use Prim.Native.Nat.{ℕ, zero, suc, _+_, _*_, _-_, _<_, _≤_, _^_}
 use mir.Syntax.{w16, w64}
 use mir.Val.{Fits}
 use mathlib.Core.Path.{_≡_, refl, sym, ap, _∙_}
@@ -12,25 +12,18 @@ use native.Mathlib.Omega.{arith}
 use native.Mathlib.Nat.{mul-le-mul-right, mul-le-mul-left}
 use native.Mathlib.Decide.{decLe}
 use lib.ListN.{length, getD, drop}
-use lib.Dec.{leb, ltb, eqb, lit<}
+use lib.Dec.{leb, ltb, eqb}
 use lib.Seq.{drop-drop, getD-drop}
 use borrow.Author.Tests.{leb-true, eqb-true, ne-eqb, lt-leb, le-leb, not-true, not-false}
-use Rattle.laws.specs.Tests.{all, upTo, each-all, all-each, upTo-below, below-upTo, false-unless, not-both}
-use Rattle.laws.specs.Picks.{pick, allOf, each-of, pick-with, both-pick}
-use Rattle.refusals.specs.declared.Refusal.{Refusal}
-use Rattle.refusals.specs.declared.Answer.{Answer}
-use Rattle.refusals.specs.declared.Answer.the-variants.{Done, Refused}
+use Rattle.laws.specs.Picks.{pick, allOf, each-of, pick-with}
 use Rattle.language.specs.Words.{countT, countN}
-use Rattle.language.specs.Checks.{checkSymbols}
-use Rattle.language.specs.CheckHead.{head-absent}
-use Rattle.language.specs.WordsInRange.{few-terminals, few-nonterminals}
+use Rattle.layout.specs.Layout.{need, slotsAt}
+use Rattle.matrix.specs.GrammarShape.{grammarInShape}
 use Rattle.area.specs.declared.shape.Scan.{Scan}
 use Rattle.area.specs.declared.shape.Walk.{Walk}
-use Rattle.area.specs.Layout.{need, slotsAt}
-use Rattle.area.specs.Shape.{isDone, ruleA, grammarInShape, byteFits, ruleB, ruleC, symbolFits, placeFits, tag, oneIfTerminal, broken, opened, inner}
+use Rattle.area.specs.Shape.{ruleC, symbolFits, placeFits, tag, oneIfTerminal, broken, opened, inner}
 use Rattle.area.specs.Shape.{scanSlot, scanned, freshScan, side, boundsFit, statusFits, goneFits, sidesFit, fallen, counted, lineOf, walkOf, blank}
 use Rattle.area.specs.Shape.{walkFits, areaInShape, inShape}
-use Rattle.area.specs.WordsOfShape.{rule-a-exactly}
 use Rattle.area.proofs.Joined.{gone-tests, row-gone, row-wrong, row-live, row-bounds}
 use Rattle.area.specs.ShapeCode.{Sized, Few, Within, Countable}
 
@@ -39,57 +32,6 @@ tag-last k l h = let e : k - 1 ≡ 0 = omega arith in rw e
 
 pub tag-early : (k l : ℕ) → 1 < k → 0 ≡ tag (k - 1) l
 tag-early k l h = let e : k - 1 ≡ suc (k - 2) = omega arith in rw e
-
--- ---- (a)
-
--- words that pass 1 to 3 have a head, with T and N in their ranges
-pub headed : (words : List ℕ) → ruleA words ≡ true → (4 ≤ length words) × (countT words ≤ 63) × (countN words ≤ 64)
-headed words e =
-    let passes = rule-a-exactly words .0 e .head in
-    let present : length words ≤ 3 → ⊥ = λ h. passes 3 (head-absent (lit< tt) h) in
-    (omega arith, few-terminals words passes .1, few-nonterminals words passes .1)
-
-module _ (words matrix : List ℕ) where
-  pub passed : checkSymbols words ≡ Done → grammarInShape words matrix ≡ ruleB (countT words) matrix
-  unfolding grammarInShape
-  passed e = ap (λ (answer : Answer). pick (isDone answer) (ruleB (countT words) matrix) false) e
-
-  pub refused : {refusal : Refusal} → checkSymbols words ≡ Refused refusal → grammarInShape words matrix ≡ false
-  unfolding grammarInShape
-  refused e = ap (λ (answer : Answer). pick (isDone answer) (ruleB (countT words) matrix) false) e
-
--- ---- (b)
-
-module _ (test : ℕ → Bool) (k : ℕ) where
-  all-pass : ((v : ℕ) → v < k → test v ≡ true) → all test (upTo k) ≡ true
-  all-pass h = each-all test (upTo k) (λ v m. h v (upTo-below k v m))
-
-  one-fails : (v : ℕ) → v < k → test v ≡ false → all test (upTo k) ≡ false
-  one-fails v h e = false-unless (all test (upTo k)) (λ p. not-both (test v) (all-each test (below-upTo k v h) p) e)
-
-second-fails : (a b : Bool) → b ≡ false → pick a b false ≡ false
-second-fails true b k = k
-second-fails false b k = refl
-
-module _ (t : ℕ) (matrix : List ℕ) where
-  -- the byte of v / 64 over v % 64
-  abbrev pub byteAt : ℕ → Bool
-  byteAt v = byteFits t (v / 64) (v % 64) (getD matrix v 0)
-
-  pub byte-here : (at a b : ℕ) → at ≡ 64 * a + b → b < 64 → byteAt at ≡ byteFits t a b (getD matrix at 0)
-  byte-here at a b e h =
-      let p : at / 64 ≡ a = omega arith in
-      let q : at % 64 ≡ b = omega arith in
-      rw (p, q)
-
-  pub short-fails : length matrix < 4096 → ruleB t matrix ≡ false
-  short-fails h = ap (λ (b : Bool). pick b (all byteAt (upTo 4096)) false) (lt-leb 4096 (length matrix) h)
-
-  pub bytes-fit : 4096 ≤ length matrix → ((v : ℕ) → v < 4096 → byteAt v ≡ true) → ruleB t matrix ≡ true
-  bytes-fit long fits = both-pick (leb 4096 (length matrix)) (all byteAt (upTo 4096)) (le-leb 4096 (length matrix) long) (all-pass byteAt 4096 fits)
-
-  pub byte-fails : (v : ℕ) → v < 4096 → byteAt v ≡ false → ruleB t matrix ≡ false
-  byte-fails v h e = second-fails (leb 4096 (length matrix)) (all byteAt (upTo 4096)) (one-fails byteAt 4096 v h e)
 
 -- ---- (c)
 

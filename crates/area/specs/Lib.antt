@@ -1,12 +1,2 @@
-pub mod EndMarkOfShape
-pub mod Kept
-pub mod Layout
-pub mod Lengths
-pub mod RowCounts
 pub mod Shape
 pub mod ShapeCode
-pub mod Start
-pub mod StartChecks
-pub mod StartKept
-pub mod StartWords
-pub mod WordsOfShape

@@ -1,53 +1,24 @@
--- The shape rules of docs/AREA.md, (a) to (k), each a test of the lent words and bytes. They speak of ranges, lengths and counts
--- alone, and mention neither a state nor its encoding. 15 is given exactly when one of them is broken.
+-- The shape rules of docs/AREA.md, (c) to (k), each a test of the lent words; with (a) and (b), of the grammar words and the matrix, they are
+-- all rules. They speak of ranges, lengths and counts alone, and mention neither a state nor its encoding. 15 is given exactly when one of
+-- them is broken.
 -- Document 01, 15 BAD STATE: "grammar, matrix or work area breaks the shape rules listed in docs/".
--- Rests on Layout's places of words, and on language's Checks.
+-- Rests on layout's places of words, and on matrix's GrammarShape.
 --
--- Main definitions: ruleA, ruleB, ruleC; (d) to (h) in one walk of the chunk table, walked; ruleI, ruleJ, ruleK; inShape, grammarInShape.
+-- Main definitions: ruleC; (d) to (h) in one walk of the chunk table, walked; ruleI, ruleJ, ruleK; areaInShape, inShape.
 use mathlib.Core.Bool.{Bool, true, false}
 use mathlib.Core.List.{List, [], _∷_}
-use Prim.Native.Nat.{ℕ, zero, suc, _+_, _*_, _-_, _/_, _%_, pred}
+use Prim.Native.Nat.{ℕ, zero, suc, _+_, _*_, _-_, pred}
 use lib.Dec.{leb, ltb, eqb}
 use lib.ListN.{length, getD, drop}
-use Rattle.laws.specs.Tests.{all, upTo}
 use Rattle.laws.specs.Picks.{pick, allOf}
-use Rattle.refusals.specs.declared.Answer.{Answer}
-use Rattle.refusals.specs.declared.Answer.the-variants.{Done, Refused}
 use Rattle.language.specs.Words.{countT, countN}
-use Rattle.language.specs.Checks.{checkSymbols}
 use Rattle.results.specs.Bounded.{mostMoves}
+use Rattle.layout.specs.Layout.{need, slotsAt, madeAtWord, movesIn}
+use Rattle.matrix.specs.GrammarShape.{grammarInShape}
 use Rattle.area.specs.declared.shape.Scan.{Scan}
 use Rattle.area.specs.declared.shape.Walk.{Walk}
-use Rattle.area.specs.Layout.{need, slotsAt, madeAtWord, movesIn}
 
--- ---- the grammar and the matrix
-
-abbrev pub isDone : Answer → Bool
-isDone Done = true
-isDone (Refused refusal) = false
-
--- (a) the grammar words pass 1 to 3
-abbrev pub ruleA : List ℕ → Bool
-ruleA words = isDone (checkSymbols words)
-
--- a byte of the matrix, a over b, of a grammar with t terminals: 0 past t; # over # is 2; # over b is 0 or 1; a over # is 0 or 3;
--- any other 0 to 3
-abbrev pub byteFits : ℕ → ℕ → ℕ → ℕ → Bool
-byteFits t a b x =
-    pick (ltb t a) (eqb x 0)
-    (pick (ltb t b) (eqb x 0)
-    (pick (eqb a 0) (pick (eqb b 0) (eqb x 2) (leb x 1))
-    (pick (eqb b 0) (pick (eqb x 0) true (eqb x 3)) (leb x 3))))
-
--- (b) the matrix has at least 4,096 bytes, of which only the first 4,096 are read
-abbrev pub ruleB : ℕ → List ℕ → Bool
-ruleB t matrix = pick (leb 4096 (length matrix)) (all (λ v. byteFits t (v / 64) (v % 64) (getD matrix v 0)) (upTo 4096)) false
-
--- the rules of the grammar and the matrix
-unfoldable pub grammarInShape : List ℕ → List ℕ → Bool
-grammarInShape words matrix = pick (ruleA words) (ruleB (countT words) matrix) false
-
--- ---- the area
+-- ---- the sizes
 
 -- (c) n in 1..16,384, C in 1..64, the area at least need(n, C) words
 abbrev pub ruleC : List ℕ → Bool

@@ -1,15 +1,15 @@
 -- What the code of the shape check is stated by, besides Shape's tests: the facts that keep it within its numbers. The
 -- counts of a scan and of a walk are at most the slots and the rows of the table passed.
 -- Document 01, 15 BAD STATE, and "Grammar, tokens, cuts, work area and report are lent u16 slices".
--- Rests on Layout.
+-- Rests on layout's Layout.
 --
 -- Main definitions: Sized, Few, Within, Countable.
 use mathlib.Core.List.{List}
 use Prim.Native.Nat.{ℕ, _+_, _≤_}
 use lib.ListN.{length, getD}
+use Rattle.layout.specs.Layout.{need}
 use Rattle.area.specs.declared.shape.Scan.{Scan}
 use Rattle.area.specs.declared.shape.Walk.{Walk}
-use Rattle.area.specs.Layout.{need}
 
 -- (c) as facts
 pub record Sized (area : List ℕ) : Type 0 where

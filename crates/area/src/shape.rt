@@ -1,17 +1,15 @@
-// The shape rules of docs/AREA.md, checked in one pass over the lent words and bytes.
+// The shape rules (c) to (k) of docs/AREA.md, checked in one pass over the lent words.
 // Each function is a definition of specs/Shape.antt, or some of them joined, of which its contract is the equation.
 // Tests are joined by `&` and `|`, so that a function of many tests has one way through it.
-use refusals::Answer;
 ghost use mathlib.Core.Bool.{false};
 ghost use mathlib.Core.Path.{_≡_};
 ghost use Prim.Native.Nat.{_+_, _*_, _-_, _≤_, _<_, _^_, pred};
 ghost use lib.ListN.{length, getD, drop};
 ghost use Rattle.laws.specs.Picks.{pick};
-ghost use Rattle.area.specs.Layout.{slotsAt};
+ghost use Rattle.layout.specs.Layout.{slotsAt};
 ghost use Rattle.area.specs.Shape.{ruleC, symbolFits, placeFits, tag, opened, inner, scanSlot, side};
 ghost use Rattle.area.specs.Shape.{statusFits, boundsFit, sidesFit, counted, lineOf, walkOf};
 ghost use Rattle.area.specs.Shape.{endFits, potentialOf, ruleJ, blank, ruleK, walkFits};
-ghost use Rattle.area.specs.Shape.{byteFits, grammarInShape};
 ghost use Rattle.area.specs.ShapeCode.{Sized, Few, Within, Countable};
 
 // Where a scan of one side of a chunk stands: within a symbol of `size` slots, `within` of them to come; how many symbols,
@@ -89,56 +87,6 @@ fn wide_word(words: &[u16], i: usize) -> usize
     ensures { λ r. ⌜ (r ≡ getD (now (words .entry)) i 0) × (r < 65536) ⌝ }
 {
     words[i] as usize
-}
-
-// ---- (a) the grammar words, (b) the matrix
-
-// A byte of the matrix, a over b, of a grammar with t terminals: 0 past t; # over # is 2; # over b is 0 or 1; a over # is 0 or 3;
-// any other 0 to 3.
-fn byte_fits(t: u16, a: u16, b: u16, x: u8) -> bool
-    ensures { λ r. ⌜ r ≡ byteFits t a b x ⌝ }
-{
-    if (t < a) | (t < b) {
-        return x == 0;
-    }
-    if a == 0 {
-        if b == 0 {
-            return x == 2;
-        }
-        return x <= 1;
-    }
-    if b == 0 {
-        return (x == 0) | (x == 3);
-    }
-    x <= 3
-}
-
-// The grammar words and the matrix keep the shape rules: (a) the words pass 1 to 3, (b) the matrix has its bytes, a over b at 64a + b, and
-// each of them fits.
-pub fn grammar_in_shape(words: &[u16], matrix: &[u8]) -> bool
-    ensures { λ r. ⌜ r ≡ grammarInShape (now (words .entry)) (now (matrix .entry)) ⌝ }
-{
-    if let Answer::Refused(_) = table::check_symbols(words) {
-        return false;
-    }
-    if matrix.len() < 4096 {
-        return false;
-    }
-    let t = word(words, 0);
-    let mut at = 0;
-    let mut a = 0;
-    while a < 64 {
-        let mut b = 0;
-        while b < 64 {
-            if !byte_fits(t, a, b, matrix[at]) {
-                return false;
-            }
-            at += 1;
-            b += 1;
-        }
-        a += 1;
-    }
-    true
 }
 
 // ---- (c) the sizes

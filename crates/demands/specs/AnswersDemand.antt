@@ -1,7 +1,7 @@
 -- Demand 1: of every public call, with any words lent to it, the numbers that it may answer, and what it leaves in the runs lent to it.
 -- Document 01: "All return number and value and leave lent memory unchanged, with one exception: once the one-call
 -- parse has passed 11 for its work area, the words its formula counts are all zero when it ends, accepted or refused"; "anything beyond is untouched".
--- Rests on PublicCalls and GivenDemand, on area's StartWords and Lengths, and OwnMatrix.
+-- Rests on PublicCalls and GivenDemand, on start's StartWords and layout's Lengths, and OwnMatrix.
 --
 -- Main definition: ParseAreaLeft. Main statements: number-listed, lent-kept, beyond-kept, parse-area-left.
 use mathlib.Core.Path.{_≡_, refl, sym, subst, ap, _∙_}
@@ -15,17 +15,18 @@ use lib.Dec.{ltb}
 use lib.ListN.{length, getD, drop}
 use Rattle.laws.specs.Parts.{drop-past}
 use Rattle.refusals.specs.declared.Refusal.{Refusal}
-use Rattle.refusals.specs.declared.Refusal.the-variants.{NoRoom}
+use Rattle.refusals.specs.declared.Refusal.the-variants.{NoRoom, BadState}
 use Rattle.refusals.specs.declared.Answer.{Answer}
 use Rattle.refusals.specs.declared.Answer.the-variants.{Done, Refused}
 use Rattle.refusals.specs.declared.RunAnswer.{RunAnswer}
 use Rattle.refusals.specs.declared.ReportAnswer.{ReportAnswer}
 use Rattle.refusals.specs.Refusals.{numberOf, answerNumber, setNumber, runNumber, reportNumber}
 use Rattle.language.specs.Words.{countT, countN, grammarOf}
-use Rattle.language.specs.Stages.{Stage, checked, stagesOf, Given, fails, passes, none-left}
+use Rattle.language.specs.Stages.{Stage, checked, stagesOf, Given, passes-all, fails, passes, none-left}
 use Rattle.language.specs.Checks.{symbolConditions, wordConditions, checkSymbols, checkWords}
 use Rattle.language.specs.Matrix.{matrixOf, matrix-length}
-use Rattle.language.specs.Loads.{NoRoomForMatrix, too-short, loadConditions, loadAnswer, loadedBytes, loadBytes, accepted-exactly, setConditions, setChecked, setOrRefusal, leftSetAnswer, rightSetAnswer}
+use Rattle.language.specs.Loads.{NoRoomForMatrix, too-short, loadConditions, loadAnswer, loadedBytes, loadBytes, accepted-exactly}
+use Rattle.language.specs.Loads.{setConditions, setChecked, setOrRefusal, leftSetAnswer, rightSetAnswer}
 use Rattle.language.specs.Grammar.{Grammar, mirrored}
 use Rattle.language.specs.Reports.{reportWords}
 use Rattle.language.specs.Trees.{Span}
@@ -36,23 +37,34 @@ use Rattle.machine.specs.TableOf.{tableOf}
 use Rattle.machine.specs.Schedules.{Turned, by-step, by-join, Schedule, no-turn, one-turn}
 use Rattle.machine.specs.Counts.{made-scheduled, run-exactly}
 use Rattle.machine.specs.Answers.{outcomeAnswer, outcomeOut}
-use Rattle.area.specs.Layout.{need, zeros, encode, decode, needIn}
-use Rattle.area.specs.Lengths.{length-report, encode-length}
-use Rattle.area.specs.Shape.{grammarInShape, inShape}
+use Rattle.layout.specs.Layout.{need, zeros, encode, decode, needIn}
+use Rattle.layout.specs.Lengths.{length-report, encode-length}
+use Rattle.matrix.specs.GrammarShape.{grammarInShape}
+use Rattle.area.specs.Shape.{inShape}
+use Rattle.shape.specs.Encoded.{tokens-at, chunks-at, low-moves-at}
 use Rattle.shape.specs.ShapeExactly.{HoldsState}
 use Rattle.shape.specs.InShape.{in-shape-parts, in-shape-holds}
 use Rattle.shape.specs.RulesAfterTurn.{same-number}
 use Rattle.shape.specs.Safe.{Safe, safe-turned, safe-run}
-use Rattle.area.specs.Start.{startConditions, GrammarBroken, grammar-broken, too-many-cuts, cut-above, cut-below, WrongCut, NoRoomForRow, no-room, startAnswer, startedArea, startArea, starts-exactly}
-use Rattle.area.specs.StartKept.{cuts-good}
-use Rattle.area.specs.StartWords.{start-words, start-words-length}
-use Rattle.reader.specs.Calls.{withState, calledAnswer, calledArea, ranAnswer, ranArea, stepCall, stepAnswer, stepArea, runCall, runAnswer, runArea, joinCall, joinAnswer, joinArea}
-use Rattle.reader.specs.ParseCall.{parsedAnswer, parsedArea, parsedOut, parseOutcome, parseBegun, parseAnswer, parseArea, parseOut}
+use Rattle.start.specs.Start.{startConditions, GrammarBroken, grammar-broken, too-many-cuts, cut-above, cut-below, WrongCut, NoRoomForRow, no-room}
+use Rattle.start.specs.Start.{startAnswer, startedArea, startArea, starts-exactly}
+use Rattle.start.specs.StartKept.{cuts-good}
+use Rattle.start.specs.StartWords.{start-words, start-words-length}
+use Rattle.moving.specs.Calls.{withState, calledAnswer, calledArea, ranAnswer, ranArea, stepCall, stepAnswer, stepArea, runCall, runAnswer, runArea, joinCall, joinAnswer, joinArea}
+use Rattle.moving.specs.ReadCall.{readAnswer, readFrom, readArea, read-begins}
+use Rattle.parse.specs.ParseCall.{parsedAnswer, parsedArea, parsedOut, parseOutcome, parseBegun, parseAnswer, parseArea, parseOut}
 use Rattle.report.specs.ReportCall.{reportOutcome, reportAnswer, reportOut}
 use Rattle.demands.specs.OwnMatrix.{own-shape}
-use Rattle.demands.specs.Reached.{stuck-number}
-use Rattle.demands.specs.PublicCalls.{PublicCall, number-of, value-of, check-symbols, check-words, load, left-set, right-set, in-shape, start, step, run, join, report, parse, entry-tokens, numberFor, numbersFor, wordsOf, Written, written}
-use Rattle.demands.specs.GivenDemand.{StepGiven, step-15, step-12, step-13, step-0, RunGiven, run-15, run-12, run-13, run-0, JoinGiven, join-15, join-12, join-14, join-0, ReportGiven, report-15, report-16, report-stuck, report-11, report-0, ParseGiven, parse-words, parse-row, parse-stuck, parse-11, parse-0, lentToLoad, load-given, lentToSet, lentToStart, start-given, step-broken, step-is, run-broken, run-is, join-broken, join-is, parse-begins, parse-refused, refused-by-load, refused-by-start, given-for}
+use Rattle.moving.specs.OnWords.{step-broken, step-in-shape, run-broken, run-in-shape, join-broken, join-in-shape}
+use Rattle.demands.specs.Reached.{at-17-20}
+use Rattle.demands.specs.PublicCalls.{PublicCall, number-of, value-of, stuck-refusal, check-symbols, check-words, body-of, load, left-set, right-set, grammar-in-shape}
+use Rattle.demands.specs.PublicCalls.{in-shape, start, step, run, join, read-through, report, parse, entry-tokens}
+use Rattle.demands.specs.PublicCalls.{numberFor, numbersFor, wordsOf, Written, written}
+use Rattle.demands.specs.GivenDemand.{StepGiven, step-15, step-12, step-13, step-0, RunGiven, run-15, run-12, run-13, run-0}
+use Rattle.demands.specs.GivenDemand.{JoinGiven, join-15, join-12, join-14, join-0, ReportGiven, report-15, report-16, report-stuck, report-11, report-0}
+use Rattle.demands.specs.GivenDemand.{ParseGiven, parse-words, parse-row, parse-stuck, parse-11, parse-0}
+use Rattle.demands.specs.GivenDemand.{lentToLoad, load-given, lentToSet, lentToStart, start-given}
+use Rattle.demands.specs.GivenDemand.{parse-begins, parse-refused, refused-by-load, refused-by-start, given-for}
 
 -- ---- the numbers
 
@@ -126,6 +138,22 @@ start-listed words matrix tokens cuts room =
     staged (stagesOf startConditions) (and-stage (λ v. refl) (and-stage (λ v. refl) (and-stage (λ v. refl) (and-stage (λ v. refl) (and-stage (λ v. refl)
     (and-stage (λ v. refl) no-stage)))))) (lentToStart words matrix tokens cuts room)
 
+-- where there are no cuts, none is wrong
+uncut : {words matrix tokens : List ℕ} {room v : ℕ} → WrongCut (lentToStart words matrix tokens [] room) v → ⊥
+uncut (too-many-cuts h) = omega arith
+uncut (cut-above few h q) = omega arith
+uncut (cut-below few h q) = omega arith
+
+read-listed : {words matrix tokens : List ℕ} {room : ℕ} {answer : Answer} → Given (lentToStart words matrix tokens [] room) startConditions answer
+    → List·Memᴰ (answerNumber answer) (0 ∷ 15 ∷ 7 ∷ 8 ∷ 9 ∷ 11 ∷ [])
+read-listed (fails l) = on here
+read-listed (passes a (fails l)) = on (on here)
+read-listed (passes a (passes b (fails l))) = on (on (on here))
+read-listed (passes a (passes b (passes c (fails l)))) = on (on (on (on here)))
+read-listed (passes a (passes b (passes c (passes d (fails l))))) = absurd (uncut (l .holds))
+read-listed (passes a (passes b (passes c (passes d (passes e (fails l)))))) = on (on (on (on (on here))))
+read-listed (passes a (passes b (passes c (passes d (passes e (passes f passes-all)))))) = here
+
 step-listed : {words matrix area : List ℕ} {c : ℕ} {answer : Answer} → StepGiven words matrix area c answer
     → List·Memᴰ (answerNumber answer) (0 ∷ 15 ∷ 12 ∷ 13 ∷ [])
 step-listed (step-15 e) = on here
@@ -196,11 +224,6 @@ module _ (words tokens : List ℕ) (room : ℕ) where
   started shape (passes a (passes b (fails l))) = refused-low 8 refl (omega arith) (omega arith) (on (on (on (on (on (on (on here)))))))
   started shape (passes a (passes b (passes c (fails l)))) = refused-low 9 refl (omega arith) (omega arith) (on (on (on (on (on (on (on (on here))))))))
   started shape (passes a (passes b (passes c (passes d (fails l))))) = absurd (uncut (l .holds))
-    where
-      uncut : {v : ℕ} → WrongCut (lentToStart words ownMatrix tokens [] room) v → ⊥
-      uncut (too-many-cuts h) = omega arith
-      uncut (cut-above few h q) = omega arith
-      uncut (cut-below few h q) = omega arith
   started shape (passes a (passes b (passes c (passes d (passes e (fails l)))))) = area-short (short (l .holds))
     where
       short : {v : ℕ} → NoRoomForRow (lentToStart words ownMatrix tokens [] room) v → room < need (length tokens) 1
@@ -248,16 +271,21 @@ parse-listed (parse-0 b reader entries moves h l) = here
 pub number-listed : (call : PublicCall) → List·Memᴰ (numberFor call) (0 ∷ numbersFor call)
 number-listed (number-of refusal) = here
 number-listed (value-of refusal) = here
+number-listed (stuck-refusal status place) = here
 number-listed (check-symbols words) = symbols-listed words
 number-listed (check-words words) = words-listed words
+number-listed (body-of words r) = here
 number-listed (load words bytes) = load-listed words bytes
 number-listed (left-set words k) = left-listed words k
 number-listed (right-set words k) = right-listed words k
+number-listed (grammar-in-shape words matrix) = here
 number-listed (in-shape words matrix area) = here
 number-listed (start words matrix tokens cuts area) = start-listed words matrix tokens cuts (length area)
 number-listed (step words matrix area c) = step-listed (given-for (step words matrix area c) (stepAnswer words matrix area c) .0 refl)
 number-listed (run words matrix area c budget) = run-listed (given-for (run words matrix area c budget) (runAnswer words matrix area c budget) .0 refl)
 number-listed (join words matrix area c) = join-listed (given-for (join words matrix area c) (joinAnswer words matrix area c) .0 refl)
+number-listed (read-through words matrix tokens area) =
+    read-listed (given-for (read-through words matrix tokens area) (readAnswer words matrix tokens (length area)) .0 refl)
 number-listed (report words matrix area out) = report-listed (given-for (report words matrix area out) (reportAnswer words matrix area (length out)) .0 refl)
 number-listed (parse words tokens area out) =
     parse-listed (given-for (parse words tokens area out) (parseAnswer words tokens (length area) (length out)) .0 refl)
@@ -272,6 +300,10 @@ load-kept (Refused refusal) words bytes h = refl
 start-kept : (a : Answer) (tokens cuts area : List ℕ) → (answerNumber a ≡ 0 → ⊥) → startedArea a tokens cuts area ≡ area
 start-kept Done tokens cuts area h = absurd (h refl)
 start-kept (Refused refusal) tokens cuts area h = refl
+
+read-kept : (a : Answer) (words matrix tokens area : List ℕ) → (answerNumber a ≡ 0 → ⊥) → readFrom a words matrix tokens area ≡ area
+read-kept Done words matrix tokens area h = absurd (h refl)
+read-kept (Refused refusal) words matrix tokens area h = refl
 
 called-kept : (x : Called Span) (area : List ℕ) → (answerNumber (calledAnswer x) ≡ 0 → ⊥) → calledArea x area ≡ area
 called-kept (refused refusal) area h = refl
@@ -306,19 +338,23 @@ Same w = w .after ≡ w .before
 
 -- where the number is not 0, every run that it may write is as it was
 pub lent-kept : (call : PublicCall) → (numberFor call ≡ 0 → ⊥) → {w : Written} → List·Memᴰ w (written call) → w .after ≡ w .before
-unfolding loadBytes startArea stepAnswer stepArea runAnswer runArea joinAnswer joinArea reportAnswer reportOut parseAnswer parseOut
+unfolding loadBytes startArea stepAnswer stepArea runAnswer runArea joinAnswer joinArea readArea reportAnswer reportOut parseAnswer parseOut
 lent-kept (number-of refusal) h m = no-run m
 lent-kept (value-of refusal) h m = no-run m
+lent-kept (stuck-refusal status place) h m = no-run m
 lent-kept (check-symbols words) h m = no-run m
 lent-kept (check-words words) h m = no-run m
+lent-kept (body-of words r) h m = no-run m
 lent-kept (load words bytes) h m = one-run Same (load-kept (loadAnswer words (length bytes)) words bytes h) m
 lent-kept (left-set words k) h m = no-run m
 lent-kept (right-set words k) h m = no-run m
+lent-kept (grammar-in-shape words matrix) h m = no-run m
 lent-kept (in-shape words matrix area) h m = no-run m
 lent-kept (start words matrix tokens cuts area) h m = one-run Same (start-kept (startAnswer words matrix tokens cuts (length area)) tokens cuts area h) m
 lent-kept (step words matrix area c) h m = one-run Same (called-kept (stepCall words matrix area c) area h) m
 lent-kept (run words matrix area c budget) h m = one-run Same (ran-kept (runCall words matrix area c budget) area h) m
 lent-kept (join words matrix area c) h m = one-run Same (called-kept (joinCall words matrix area c) area h) m
+lent-kept (read-through words matrix tokens area) h m = one-run Same (read-kept (readAnswer words matrix tokens (length area)) words matrix tokens area h) m
 lent-kept (report words matrix area out) h m = one-run Same (outcome-kept (reportOutcome words matrix area) out h) m
 lent-kept (parse words tokens area out) h m =
     one-run Same (parsed-kept (parseBegun words tokens (length area)) (parseOutcome words tokens) out h) m
@@ -376,25 +412,26 @@ module _ (words matrix area : List ℕ) (low : getD area 2 0 < 65536) where
         state-beyond s′ (safe-run words matrix grammar c budget (holds .kept) q)
         (scheduled-number (made-scheduled (tableOf words matrix) c (m .made)) ∙ holds .chunks-are)
 
+  -- 15, or the machine's call x on an area in shape
+  call-beyond : (call x : Called Span) → (inShape words matrix area ≡ false → call ≡ refused BadState) → (inShape words matrix area ≡ true → call ≡ x)
+      → ((s′ : State Span) → x ≡ became s′ → Turned (tableOf words matrix) (decode area) s′) → drop (needIn area) (calledArea call area) ≡ drop (needIn area) area
+  call-beyond call x broken is turns = go (inShape words matrix area) refl
+    where
+      go : (b : Bool) → inShape words matrix area ≡ b → drop (needIn area) (calledArea call area) ≡ drop (needIn area) area
+      go false e = ap (λ y. drop (needIn area) (calledArea y area)) (broken e)
+      go true e = ap (λ y. drop (needIn area) (calledArea y area)) (is e) ∙ called-beyond e x turns
+
   step-beyond : (c : ℕ) → drop (needIn area) (stepArea words matrix area c) ≡ drop (needIn area) area
   unfolding stepArea
-  step-beyond c = go (inShape words matrix area) refl
-    where
-      go : (b : Bool) → inShape words matrix area ≡ b → drop (needIn area) (calledArea (stepCall words matrix area c) area) ≡ drop (needIn area) area
-      go false e = ap (λ x. drop (needIn area) (calledArea x area)) (step-broken words matrix area c e)
-      go true e =
-          ap (λ x. drop (needIn area) (calledArea x area)) (step-is words matrix area c e)
-          ∙ called-beyond e (States.step (tableOf words matrix) c (decode area)) (λ s′ q. by-step c q)
+  step-beyond c =
+      call-beyond (stepCall words matrix area c) (States.step (tableOf words matrix) c (decode area))
+      (step-broken words matrix area c) (step-in-shape words matrix area c) (λ s′ q. by-step c q)
 
   join-beyond : (c : ℕ) → drop (needIn area) (joinArea words matrix area c) ≡ drop (needIn area) area
   unfolding joinArea
-  join-beyond c = go (inShape words matrix area) refl
-    where
-      go : (b : Bool) → inShape words matrix area ≡ b → drop (needIn area) (calledArea (joinCall words matrix area c) area) ≡ drop (needIn area) area
-      go false e = ap (λ x. drop (needIn area) (calledArea x area)) (join-broken words matrix area c e)
-      go true e =
-          ap (λ x. drop (needIn area) (calledArea x area)) (join-is words matrix area c e)
-          ∙ called-beyond e (States.join c (decode area)) (λ s′ q. by-join c q)
+  join-beyond c =
+      call-beyond (joinCall words matrix area c) (States.join c (decode area))
+      (join-broken words matrix area c) (join-in-shape words matrix area c) (λ s′ q. by-join c q)
 
   run-beyond : (c budget : ℕ) → drop (needIn area) (runArea words matrix area c budget) ≡ drop (needIn area) area
   unfolding runArea
@@ -403,8 +440,30 @@ module _ (words matrix area : List ℕ) (low : getD area 2 0 < 65536) where
       go : (b : Bool) → inShape words matrix area ≡ b → drop (needIn area) (ranArea (runCall words matrix area c budget) area) ≡ drop (needIn area) area
       go false e = ap (λ x. drop (needIn area) (ranArea x area)) (run-broken words matrix area c budget e)
       go true e =
-          ap (λ x. drop (needIn area) (ranArea x area)) (run-is words matrix area c budget e)
+          ap (λ x. drop (needIn area) (ranArea x area)) (run-in-shape words matrix area c budget e)
           ∙ ran-beyond e c budget (States.run (tableOf words matrix) c budget (decode area)) refl
+
+-- a row read through: the words of its start, and then those of its run
+started-as : (words matrix tokens area : List ℕ) → readAnswer words matrix tokens (length area) ≡ Done
+    → startArea words matrix tokens [] area ≡ encode (length tokens) (States.start tokens []) ++ drop (need (length tokens) 1) area
+unfolding startArea
+started-as words matrix tokens area e = ap (λ a. startedArea a tokens [] area) (sym (read-begins words matrix tokens area) ∙ e)
+
+read-beyond : (words matrix tokens area : List ℕ) (a : Answer) → readAnswer words matrix tokens (length area) ≡ a
+    → drop (need (length tokens) 1) (readFrom a words matrix tokens area) ≡ drop (need (length tokens) 1) area
+read-beyond words matrix tokens area (Refused refusal) e = refl
+read-beyond words matrix tokens area Done e =
+    let n : ℕ = length tokens in
+    let s : State Span = States.start tokens [] in
+    let rest : List ℕ = drop (need n 1) area in
+    let is = started-as words matrix tokens area e in
+    let f = sym (read-begins words matrix tokens area) ∙ e in
+    let low : getD (encode n s ++ rest) 2 0 < 65536 = omega (arith, low-moves-at n s rest) in
+    let count : needIn (encode n s ++ rest) ≡ need n 1 = rw (tokens-at n s rest, chunks-at n s rest) in
+    let ran : drop (need n 1) (runArea words matrix (encode n s ++ rest) 0 (2 * n + 2)) ≡ drop (need n 1) (encode n s ++ rest) =
+    subst (λ k. drop k (runArea words matrix (encode n s ++ rest) 0 (2 * n + 2)) ≡ drop k (encode n s ++ rest)) count
+    (run-beyond words matrix (encode n s ++ rest) low 0 (2 * n + 2)) in
+    ap (λ l. drop (need n 1) (runArea words matrix l 0 (2 * n + 2))) is ∙ ran ∙ start-beyond words matrix tokens [] area Done f
 
 outcome-beyond : (o : Outcome) (out : List ℕ)
     → drop (wordsOf (outcomeAnswer o (length out))) (outcomeOut o out) ≡ drop (wordsOf (outcomeAnswer o (length out))) out
@@ -432,20 +491,25 @@ Beyond w = getD (w .before) 2 0 < 65536 → drop (w .counted) (w .after) ≡ dro
 -- accepted or refused, nothing changes beyond what the call counts
 pub beyond-kept : (call : PublicCall) → {w : Written} → List·Memᴰ w (written call) → getD (w .before) 2 0 < 65536
     → drop (w .counted) (w .after) ≡ drop (w .counted) (w .before)
-unfolding loadBytes startArea reportAnswer reportOut parseAnswer parseOut
+unfolding loadBytes startArea readArea reportAnswer reportOut parseAnswer parseOut
 beyond-kept (number-of refusal) m = no-run m
 beyond-kept (value-of refusal) m = no-run m
+beyond-kept (stuck-refusal status place) m = no-run m
 beyond-kept (check-symbols words) m = no-run m
 beyond-kept (check-words words) m = no-run m
+beyond-kept (body-of words r) m = no-run m
 beyond-kept (load words bytes) m = one-run Beyond (λ low. load-beyond (loadAnswer words (length bytes)) words bytes) m
 beyond-kept (left-set words k) m = no-run m
 beyond-kept (right-set words k) m = no-run m
+beyond-kept (grammar-in-shape words matrix) m = no-run m
 beyond-kept (in-shape words matrix area) m = no-run m
 beyond-kept (start words matrix tokens cuts area) m =
     one-run Beyond (λ low. start-beyond words matrix tokens cuts area (startAnswer words matrix tokens cuts (length area)) refl) m
 beyond-kept (step words matrix area c) m = one-run Beyond (λ low. step-beyond words matrix area low c) m
 beyond-kept (run words matrix area c budget) m = one-run Beyond (λ low. run-beyond words matrix area low c budget) m
 beyond-kept (join words matrix area c) m = one-run Beyond (λ low. join-beyond words matrix area low c) m
+beyond-kept (read-through words matrix tokens area) m =
+    one-run Beyond (λ low. read-beyond words matrix tokens area (readAnswer words matrix tokens (length area)) refl) m
 beyond-kept (report words matrix area out) m = one-run Beyond (λ low. outcome-beyond (reportOutcome words matrix area) out) m
 beyond-kept (parse words tokens area out) m =
     one-run Beyond (λ low. parsed-beyond (parseBegun words tokens (length area)) (parseOutcome words tokens) out) m
@@ -473,7 +537,7 @@ module _ (words tokens area out : List ℕ) where
       → parseArea words tokens area ≡ area
   refused-first (parse-words e) low high = area-stays (refused-by-load words tokens (length area) e)
   refused-first (parse-row e f) low high = area-stays (refused-by-start words tokens (length area) e f)
-  refused-first (parse-stuck b reader why place h) low high = absurd (omega (arith, stuck-number why place .0))
+  refused-first (parse-stuck b reader why place h) low high = absurd (omega (arith, at-17-20 why place .0))
   refused-first (parse-11 b reader entries moves h l) low high = absurd (omega arith)
   refused-first (parse-0 b reader entries moves h l) low high = absurd (omega arith)
 

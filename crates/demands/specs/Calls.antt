@@ -2,7 +2,7 @@
 -- Document 01: "A schedule is just the order of calls"; "Load, start, move and join answer 0, 0 on success"; a run "answers how many it
 -- made". A call holds its chunk number, a run its budget too: any numbers at all, so that a call may be refused. Each call is lent
 -- its own run of matrix bytes.
--- Rests on reader's Calls and language's Refusals and Loads.
+-- Rests on moving's Calls and language's Refusals and Loads.
 --
 -- Main definitions: Call, callNumber, callMade, callArea; areaAfter, movesMade; OfLoad, AllOfLoad, Begun.
 use mathlib.Core.Path.{_≡_}
@@ -15,8 +15,8 @@ use Rattle.refusals.specs.declared.RunAnswer.{RunAnswer}
 use Rattle.refusals.specs.declared.RunAnswer.the-variants as run
 use Rattle.refusals.specs.Refusals.{answerNumber, runNumber}
 use Rattle.language.specs.Loads.{loadAnswer, loadBytes}
-use Rattle.area.specs.Start.{startAnswer, startArea}
-use Rattle.reader.specs.Calls.{stepAnswer, stepArea, runAnswer, runArea, joinAnswer, joinArea}
+use Rattle.start.specs.Start.{startAnswer, startArea}
+use Rattle.moving.specs.Calls.{stepAnswer, stepArea, runAnswer, runArea, joinAnswer, joinArea}
 
 -- ---- one call
 

@@ -27,11 +27,11 @@ use Rattle.machine.specs.Counts.{RunNamed}
 use Rattle.results.specs.ReadThrough.{ReadThrough}
 use Rattle.results.specs.Confluent.{withoutMoves}
 use Rattle.results.specs.UncutRow.{InLanguage, AxiomTree}
-use Rattle.area.specs.Layout.{need, encode, decode, movesIn, beyondIn}
+use Rattle.layout.specs.Layout.{need, encode, decode, movesIn, beyondIn}
 use Rattle.area.specs.Shape.{inShape}
-use Rattle.area.specs.Start.{startAnswer}
+use Rattle.start.specs.Start.{startAnswer}
 use Rattle.shape.specs.Safe.{Safe}
-use Rattle.reader.specs.ParseCall.{parseOutcome, parseAnswer, parseOut}
+use Rattle.parse.specs.ParseCall.{parseOutcome, parseAnswer, parseOut}
 use Rattle.report.specs.ReportCall.{reportOutcome, reportAnswer, reportOut}
 use Rattle.demands.specs.PublicCalls.{PublicCall, GivesBack, promised, Keeps, numberFor, numbersFor, Written, written}
 use Rattle.demands.specs.GivenDemand.{GivenFor}

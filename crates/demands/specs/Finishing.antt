@@ -28,12 +28,12 @@ use Rattle.machine.specs.Allowed.{Live}
 use Rattle.machine.specs.AllowedExactly.{step-exactly, join-exactly}
 use Rattle.results.specs.Bounded.{mostMoves}
 use Rattle.results.specs.Progress.{progress, answered-no-turn}
-use Rattle.area.specs.Kept.{FirstLive, first-live}
-use Rattle.reader.specs.Calls.{calledAnswer, stepCall, stepAnswer, joinCall, joinAnswer}
+use Rattle.layout.specs.Kept.{FirstLive, first-live}
+use Rattle.moving.specs.Calls.{calledAnswer, stepCall, stepAnswer, joinCall, joinAnswer}
 use Rattle.report.specs.ReportCall.{reportAnswer}
 use Rattle.demands.specs.Calls.{Call, a-step, a-join, matrixFor, callMade, callArea, areaAfter, movesMade, OfLoad, AllOfLoad, no-call, and-call, Begun}
 use Rattle.demands.specs.OwnMatrix.{ownTable, shape-is, table-is}
-use Rattle.demands.specs.OnWords.{step-is, join-is}
+use Rattle.moving.specs.OnWords.{step-is, join-is}
 use Rattle.demands.specs.Standing.{Standing, CallView, refused-so, moved-so, standing-safe, standing-view}
 use Rattle.demands.specs.Reached.{OutcomeNumber, number-16, number-stuck, number-11, number-0, outcome-number, there, report-number, moves-few}
 use Rattle.demands.specs.SameReport.{answered}

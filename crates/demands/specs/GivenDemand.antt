@@ -2,7 +2,7 @@
 -- Document 01, "Refusal numbers": "No. | Given exactly when | Value". The checks of words, of a set and of a start are lists of conditions in
 -- the order of the checks, as language's Given reads them: the earlier ones hold nowhere, this one holds at the value and at nothing
 -- smaller. A call on an area is 15 exactly when the shape rules are broken; otherwise machine's sentences hold of the state that the area decodes to.
--- Rests on PublicCalls, on language's Checks and Loads, area's Start, machine's AllowedExactly, GivenExactly and Counts, and ParseDemand.
+-- Rests on PublicCalls, on language's Checks and Loads, start's Start, machine's AllowedExactly, GivenExactly and Counts, and ParseDemand.
 --
 -- Main definitions: SetGiven, StepGiven, RunGiven, JoinGiven, ReportGiven, ParseGiven; GivenFor (of any call). Main statement: given-for.
 use mathlib.Core.Path.{_≡_, refl, ap, _∙_}
@@ -36,24 +36,33 @@ use Rattle.language.specs.Conflicts.{conflict-finds}
 use Rattle.language.specs.WordsInRange.{in-range}
 use Rattle.language.specs.SetMasks.{leftSet, leftSize}
 use Rattle.language.specs.Matrix.{matrixOf}
-use Rattle.language.specs.Loads.{LoadInput, room-finds, loadConditions, loadAnswer, accepted-exactly, SetInput, nonterminal-finds, setConditions, setChecked, setOrRefusal, leftSetAnswer, rightSetAnswer}
+use Rattle.language.specs.Loads.{LoadInput, room-finds, loadConditions, loadAnswer, accepted-exactly}
+use Rattle.language.specs.Loads.{SetInput, nonterminal-finds, setConditions, setChecked, setOrRefusal, leftSetAnswer, rightSetAnswer}
 use Rattle.language.specs.Trees.{Span, Reduction}
 use Rattle.machine.specs.Moves.{Stuck}
-use Rattle.machine.specs.States.{State, Called, refused, Ran, refusedRun, Outcome, refusedRow, reported, refusalOf, outcome}
+use Rattle.machine.specs.States.{State, Called, Ran, Outcome, refusedRow, reported, refusalOf, outcome}
 use Rattle.machine.specs.States
 use Rattle.machine.specs.TableOf.{tableOf}
 use Rattle.machine.specs.Allowed.{Live, Steps, JoinsAt}
-use Rattle.machine.specs.AllowedExactly.{StepView, no-such-chunk, was-at-rest, steps-so, step-view, step-exactly, JoinView, no-left, no-right, left-moves, right-moves, joins-so, join-view, join-exactly}
-use Rattle.machine.specs.GivenExactly.{LiveAtRest, CannotJoin, no-live-right, left-not-at-rest, right-not-at-rest, step-no-chunk, step-at-rest, RunView, run-no-chunk-so, run-at-rest-so, runs-so, run-view, run-no-chunk, run-at-rest, join-no-chunk, no-join-exactly, Finished, StuckSo, ReportedSo, OutcomeView, unfinished-so, stuck-so, reported-so, outcome-view, unfinished-exactly, stuck-exactly, report-exactly}
+use Rattle.machine.specs.AllowedExactly.{StepView, no-such-chunk, was-at-rest, steps-so, step-view, step-exactly}
+use Rattle.machine.specs.AllowedExactly.{JoinView, no-left, no-right, left-moves, right-moves, joins-so, join-view, join-exactly}
+use Rattle.machine.specs.GivenExactly.{LiveAtRest, CannotJoin, no-live-right, left-not-at-rest, right-not-at-rest}
+use Rattle.machine.specs.GivenExactly.{step-no-chunk, step-at-rest}
+use Rattle.machine.specs.GivenExactly.{RunView, run-no-chunk-so, run-at-rest-so, runs-so, run-view, run-no-chunk, run-at-rest, join-no-chunk, no-join-exactly}
+use Rattle.machine.specs.GivenExactly.{Finished, StuckSo, ReportedSo}
+use Rattle.machine.specs.GivenExactly.{OutcomeView, unfinished-so, stuck-so, reported-so, outcome-view, unfinished-exactly, stuck-exactly, report-exactly}
 use Rattle.machine.specs.Counts.{RunNamed, run-exactly}
 use Rattle.machine.specs.Answers.{outcomeAnswer}
-use Rattle.area.specs.Layout.{decode}
+use Rattle.layout.specs.Layout.{decode}
 use Rattle.area.specs.Shape.{inShape}
-use Rattle.area.specs.Start.{StartInput, startConditions, startAnswer, start-ready, starts-exactly}
-use Rattle.reader.specs.Calls.{calledAnswer, ranAnswer, stepCall, stepAnswer, runCall, runAnswer, joinCall, joinAnswer}
-use Rattle.reader.specs.ParseCall.{thenStart, parsedAnswer, parseOutcome, parseBegun, parseAnswer}
-use Rattle.report.specs.ReportCall.{reportOutcome, reportAnswer}
-use Rattle.demands.specs.PublicCalls.{PublicCall, number-of, value-of, check-symbols, check-words, load, left-set, right-set, in-shape, start, step, run, join, report, parse, entry-tokens}
+use Rattle.start.specs.Start.{StartInput, startConditions, startAnswer, start-ready, starts-exactly}
+use Rattle.moving.specs.Calls.{calledAnswer, ranAnswer, stepCall, stepAnswer, runCall, runAnswer, joinCall, joinAnswer}
+use Rattle.moving.specs.ReadCall.{readAnswer}
+use Rattle.parse.specs.ParseCall.{thenStart, parsedAnswer, parseOutcome, parseBegun, parseAnswer}
+use Rattle.report.specs.ReportCall.{reportOutcome, reportAnswer, report-broken, report-in-shape}
+use Rattle.moving.specs.OnWords.{step-broken, step-in-shape, run-broken, run-in-shape, join-broken, join-in-shape}
+use Rattle.demands.specs.PublicCalls.{PublicCall, number-of, value-of, stuck-refusal, check-symbols, check-words, body-of, load, left-set, right-set}
+use Rattle.demands.specs.PublicCalls.{grammar-in-shape, in-shape, start, step, run, join, read-through, report, parse, entry-tokens}
 use Rattle.demands.specs.SameReport.{right-tokens}
 use Rattle.demands.specs.ParseDemand.{UncutReader, uncut-reader, parse-reads, uncut-finished}
 
@@ -127,6 +136,12 @@ unfolding startAnswer
 start-given words matrix tokens cuts room answer =
     given-exactly (lentToStart words matrix tokens cuts room) (start-ready (lentToStart words matrix tokens cuts room)) answer
 
+-- a row read through answers as a start with no cuts does
+pub read-given : (words matrix tokens : List ℕ) (room : ℕ) (answer : Answer)
+    → (readAnswer words matrix tokens room ≡ answer) ↔ Given (lentToStart words matrix tokens [] room) startConditions answer
+unfolding readAnswer
+read-given words matrix tokens room answer = start-given words matrix tokens [] room answer
+
 -- ---- calls on an area
 
 module _ (words matrix area : List ℕ) where
@@ -165,14 +180,6 @@ module _ (words matrix area : List ℕ) where
 
   -- in shape, a call is the machine's
   module _ (c : ℕ) where
-    pub step-broken : inShape words matrix area ≡ false → stepCall words matrix area c ≡ refused BadState
-    unfolding stepCall
-    step-broken e = rw (e, stepCall)
-
-    pub step-is : inShape words matrix area ≡ true → stepCall words matrix area c ≡ States.step (tableOf words matrix) c (decode area)
-    unfolding stepCall
-    step-is e = rw (e, stepCall)
-
     step-found : StepGiven c (stepAnswer words matrix area c)
     unfolding stepAnswer
     step-found = go (inShape words matrix area) refl
@@ -183,26 +190,18 @@ module _ (words matrix area : List ℕ) where
         of e (steps-so m) = step-0 e m
 
         go : (b : Bool) → inShape words matrix area ≡ b → StepGiven c (calledAnswer (stepCall words matrix area c))
-        go false e = rw (step-broken e) (step-15 e)
-        go true e = rw (step-is e) (of e (step-view (tableOf words matrix) c (decode area)))
+        go false e = rw (step-broken words matrix area c e) (step-15 e)
+        go true e = rw (step-in-shape words matrix area c e) (of e (step-view (tableOf words matrix) c (decode area)))
 
     step-so : {answer : Answer} → StepGiven c answer → stepAnswer words matrix area c ≡ answer
     unfolding stepAnswer
-    step-so (step-15 e) = ap calledAnswer (step-broken e)
-    step-so (step-12 e h) = ap calledAnswer (step-is e ∙ step-no-chunk (tableOf words matrix) c (decode area) .1 h)
-    step-so (step-13 e h) = ap calledAnswer (step-is e ∙ step-at-rest (tableOf words matrix) c (decode area) .1 h)
-    step-so (step-0 e {s′ = s′} m) = ap calledAnswer (step-is e ∙ step-exactly (tableOf words matrix) c (decode area) s′ .0 m)
+    step-so (step-15 e) = ap calledAnswer (step-broken words matrix area c e)
+    step-so (step-12 e h) = ap calledAnswer (step-in-shape words matrix area c e ∙ step-no-chunk (tableOf words matrix) c (decode area) .1 h)
+    step-so (step-13 e h) = ap calledAnswer (step-in-shape words matrix area c e ∙ step-at-rest (tableOf words matrix) c (decode area) .1 h)
+    step-so (step-0 e {s′ = s′} m) = ap calledAnswer (step-in-shape words matrix area c e ∙ step-exactly (tableOf words matrix) c (decode area) s′ .0 m)
 
     step-given : (answer : Answer) → (stepAnswer words matrix area c ≡ answer) ↔ StepGiven c answer
     step-given answer = (λ e. rw e at step-found, step-so)
-
-    pub join-broken : inShape words matrix area ≡ false → joinCall words matrix area c ≡ refused BadState
-    unfolding joinCall
-    join-broken e = rw (e, joinCall)
-
-    pub join-is : inShape words matrix area ≡ true → joinCall words matrix area c ≡ States.join c (decode area)
-    unfolding joinCall
-    join-is e = rw (e, joinCall)
 
     join-found : JoinGiven c (joinAnswer words matrix area c)
     unfolding joinAnswer
@@ -216,28 +215,20 @@ module _ (words matrix area : List ℕ) where
         of e (joins-so m) = join-0 e m
 
         go : (b : Bool) → inShape words matrix area ≡ b → JoinGiven c (calledAnswer (joinCall words matrix area c))
-        go false e = rw (join-broken e) (join-15 e)
-        go true e = rw (join-is e) (of e (join-view c (decode area)))
+        go false e = rw (join-broken words matrix area c e) (join-15 e)
+        go true e = rw (join-in-shape words matrix area c e) (of e (join-view c (decode area)))
 
     join-so : {answer : Answer} → JoinGiven c answer → joinAnswer words matrix area c ≡ answer
     unfolding joinAnswer
-    join-so (join-15 e) = ap calledAnswer (join-broken e)
-    join-so (join-12 e h) = ap calledAnswer (join-is e ∙ join-no-chunk c (decode area) .1 h)
-    join-so (join-14 e h) = ap calledAnswer (join-is e ∙ no-join-exactly c (decode area) .1 h)
-    join-so (join-0 e {s′ = s′} m) = ap calledAnswer (join-is e ∙ join-exactly c (decode area) s′ .0 m)
+    join-so (join-15 e) = ap calledAnswer (join-broken words matrix area c e)
+    join-so (join-12 e h) = ap calledAnswer (join-in-shape words matrix area c e ∙ join-no-chunk c (decode area) .1 h)
+    join-so (join-14 e h) = ap calledAnswer (join-in-shape words matrix area c e ∙ no-join-exactly c (decode area) .1 h)
+    join-so (join-0 e {s′ = s′} m) = ap calledAnswer (join-in-shape words matrix area c e ∙ join-exactly c (decode area) s′ .0 m)
 
     join-given : (answer : Answer) → (joinAnswer words matrix area c ≡ answer) ↔ JoinGiven c answer
     join-given answer = (λ e. rw e at join-found, join-so)
 
   module _ (c budget : ℕ) where
-    pub run-broken : inShape words matrix area ≡ false → runCall words matrix area c budget ≡ refusedRun BadState
-    unfolding runCall
-    run-broken e = rw (e, runCall)
-
-    pub run-is : inShape words matrix area ≡ true → runCall words matrix area c budget ≡ States.run (tableOf words matrix) c budget (decode area)
-    unfolding runCall
-    run-is e = rw (e, runCall)
-
     run-found : RunGiven c budget (runAnswer words matrix area c budget)
     unfolding runAnswer
     run-found = go (inShape words matrix area) refl
@@ -249,15 +240,15 @@ module _ (words matrix area : List ℕ) where
         of e q (runs-so {j = j} {s′ = s′} l h m) = run-0 e (run-exactly (tableOf words matrix) c budget (decode area) j s′ .0 q)
 
         go : (b : Bool) → inShape words matrix area ≡ b → RunGiven c budget (ranAnswer (runCall words matrix area c budget))
-        go false e = rw (run-broken e) (run-15 e)
-        go true e = rw (run-is e) (of e refl (run-view (tableOf words matrix) c budget (decode area)))
+        go false e = rw (run-broken words matrix area c budget e) (run-15 e)
+        go true e = rw (run-in-shape words matrix area c budget e) (of e refl (run-view (tableOf words matrix) c budget (decode area)))
 
     run-so : {answer : RunAnswer} → RunGiven c budget answer → runAnswer words matrix area c budget ≡ answer
     unfolding runAnswer
-    run-so (run-15 e) = ap ranAnswer (run-broken e)
-    run-so (run-12 e h) = ap ranAnswer (run-is e ∙ run-no-chunk (tableOf words matrix) c budget (decode area) .1 h)
-    run-so (run-13 e h) = ap ranAnswer (run-is e ∙ run-at-rest (tableOf words matrix) c budget (decode area) .1 h)
-    run-so (run-0 e {j = j} {s′ = s′} m) = ap ranAnswer (run-is e ∙ run-exactly (tableOf words matrix) c budget (decode area) j s′ .1 m)
+    run-so (run-15 e) = ap ranAnswer (run-broken words matrix area c budget e)
+    run-so (run-12 e h) = ap ranAnswer (run-in-shape words matrix area c budget e ∙ run-no-chunk (tableOf words matrix) c budget (decode area) .1 h)
+    run-so (run-13 e h) = ap ranAnswer (run-in-shape words matrix area c budget e ∙ run-at-rest (tableOf words matrix) c budget (decode area) .1 h)
+    run-so (run-0 e {j = j} {s′ = s′} m) = ap ranAnswer (run-in-shape words matrix area c budget e ∙ run-exactly (tableOf words matrix) c budget (decode area) j s′ .1 m)
 
     run-given : (answer : RunAnswer) → (runAnswer words matrix area c budget ≡ answer) ↔ RunGiven c budget answer
     run-given answer = (λ e. rw e at run-found, run-so)
@@ -272,14 +263,6 @@ without-room : (entries : List (Reduction Span)) (moves room : ℕ) → room < 3
 without-room entries moves room h = rw (lt-ltb room (3 * length entries) h, outcomeAnswer)
 
 module _ (words matrix area : List ℕ) (room : ℕ) where
-  report-broken : inShape words matrix area ≡ false → reportOutcome words matrix area ≡ refusedRow BadState
-  unfolding reportOutcome
-  report-broken e = rw (e, reportOutcome)
-
-  report-is : inShape words matrix area ≡ true → reportOutcome words matrix area ≡ outcome (decode area)
-  unfolding reportOutcome
-  report-is e = rw (e, reportOutcome)
-
   report-found : ReportGiven words matrix area room (reportAnswer words matrix area room)
   unfolding reportAnswer
   report-found = go (inShape words matrix area) refl
@@ -295,18 +278,18 @@ module _ (words matrix area : List ℕ) (room : ℕ) where
       of e (reported-so entries moves q h) = rw q (written e entries moves h (ltb room (3 * length entries)) refl)
 
       go : (b : Bool) → inShape words matrix area ≡ b → ReportGiven words matrix area room (outcomeAnswer (reportOutcome words matrix area) room)
-      go false e = rw (report-broken e) (report-15 e)
-      go true e = rw (report-is e) (of e (outcome-view (decode area)))
+      go false e = rw (report-broken words matrix area e) (report-15 e)
+      go true e = rw (report-in-shape words matrix area e) (of e (outcome-view (decode area)))
 
   report-so : {answer : ReportAnswer} → ReportGiven words matrix area room answer → reportAnswer words matrix area room ≡ answer
   unfolding reportAnswer
-  report-so (report-15 e) = ap (λ o. outcomeAnswer o room) (report-broken e)
-  report-so (report-16 e h) = ap (λ o. outcomeAnswer o room) (report-is e ∙ unfinished-exactly (decode area) .1 h)
-  report-so (report-stuck e why place h) = ap (λ o. outcomeAnswer o room) (report-is e ∙ stuck-exactly (decode area) why place .1 h)
+  report-so (report-15 e) = ap (λ o. outcomeAnswer o room) (report-broken words matrix area e)
+  report-so (report-16 e h) = ap (λ o. outcomeAnswer o room) (report-in-shape words matrix area e ∙ unfinished-exactly (decode area) .1 h)
+  report-so (report-stuck e why place h) = ap (λ o. outcomeAnswer o room) (report-in-shape words matrix area e ∙ stuck-exactly (decode area) why place .1 h)
   report-so (report-11 e entries moves h l) =
-      ap (λ o. outcomeAnswer o room) (report-is e ∙ report-exactly (decode area) entries moves .1 h) ∙ without-room entries moves room l
+      ap (λ o. outcomeAnswer o room) (report-in-shape words matrix area e ∙ report-exactly (decode area) entries moves .1 h) ∙ without-room entries moves room l
   report-so (report-0 e entries moves h l) =
-      ap (λ o. outcomeAnswer o room) (report-is e ∙ report-exactly (decode area) entries moves .1 h) ∙ with-room entries moves room l
+      ap (λ o. outcomeAnswer o room) (report-in-shape words matrix area e ∙ report-exactly (decode area) entries moves .1 h) ∙ with-room entries moves room l
 
   report-given : (answer : ReportAnswer) → (reportAnswer words matrix area room ≡ answer) ↔ ReportGiven words matrix area room answer
   report-given answer = (λ e. rw e at report-found, report-so)
@@ -372,7 +355,8 @@ module _ (words tokens : List ℕ) (room : ℕ) where
     parse-found = by-load (loadAnswer words 4096) refl
       where
         written : Begins words tokens room → (reader : UncutReader words tokens) (entries : List (Reduction Span)) (moves : ℕ)
-            → ReportedSo (reader .last) entries moves → (b : Bool) → ltb outRoom (3 * length entries) ≡ b → ParseGiven words tokens room outRoom (outcomeAnswer (reported entries moves) outRoom)
+            → ReportedSo (reader .last) entries moves → (b : Bool) → ltb outRoom (3 * length entries) ≡ b
+            → ParseGiven words tokens room outRoom (outcomeAnswer (reported entries moves) outRoom)
         written b reader entries moves h true q =
             let l = ltb-true outRoom (3 * length entries) q in rw (without-room entries moves outRoom l) (parse-11 b reader entries moves h l)
         written b reader entries moves h false q =
@@ -417,17 +401,22 @@ module _ (words tokens : List ℕ) (room : ℕ) where
 abbrev pub GivenFor : PublicCall → Type 1
 GivenFor (number-of refusal) = Unit {1}
 GivenFor (value-of refusal) = Unit {1}
+GivenFor (stuck-refusal status place) = Unit {1}
 GivenFor (check-symbols words) = (answer : Answer) → (checkSymbols words ≡ answer) ↔ Given words symbolConditions answer
 GivenFor (check-words words) = (answer : Answer) → (checkWords words ≡ answer) ↔ Given words wordConditions answer
+GivenFor (body-of words r) = Unit {1}
 GivenFor (load words bytes) = (answer : Answer) → (loadAnswer words (length bytes) ≡ answer) ↔ Given (lentToLoad words (length bytes)) loadConditions answer
 GivenFor (left-set words k) = (answer : SetAnswer) → (leftSetAnswer words k ≡ answer) ↔ SetGiven words k (grammarOf words) answer
 GivenFor (right-set words k) = (answer : SetAnswer) → (rightSetAnswer words k ≡ answer) ↔ SetGiven words k (mirrored (grammarOf words)) answer
+GivenFor (grammar-in-shape words matrix) = Unit {1}
 GivenFor (in-shape words matrix area) = Unit {1}
 GivenFor (start words matrix tokens cuts area) = (answer : Answer)
     → (startAnswer words matrix tokens cuts (length area) ≡ answer) ↔ Given (lentToStart words matrix tokens cuts (length area)) startConditions answer
 GivenFor (step words matrix area c) = (answer : Answer) → (stepAnswer words matrix area c ≡ answer) ↔ StepGiven words matrix area c answer
 GivenFor (run words matrix area c budget) = (answer : RunAnswer) → (runAnswer words matrix area c budget ≡ answer) ↔ RunGiven words matrix area c budget answer
 GivenFor (join words matrix area c) = (answer : Answer) → (joinAnswer words matrix area c ≡ answer) ↔ JoinGiven words matrix area c answer
+GivenFor (read-through words matrix tokens area) = (answer : Answer)
+    → (readAnswer words matrix tokens (length area) ≡ answer) ↔ Given (lentToStart words matrix tokens [] (length area)) startConditions answer
 GivenFor (report words matrix area out) = (answer : ReportAnswer)
     → (reportAnswer words matrix area (length out) ≡ answer) ↔ ReportGiven words matrix area (length out) answer
 GivenFor (parse words tokens area out) = (answer : ReportAnswer)
@@ -437,16 +426,20 @@ GivenFor (entry-tokens entries e tokens place) = Unit {1}
 pub given-for : (call : PublicCall) → GivenFor call
 given-for (number-of refusal) = tt
 given-for (value-of refusal) = tt
+given-for (stuck-refusal status place) = tt
 given-for (check-symbols words) = symbols-given words
 given-for (check-words words) = words-given words
+given-for (body-of words r) = tt
 given-for (load words bytes) = load-given words (length bytes)
 given-for (left-set words k) = left-given words k
 given-for (right-set words k) = right-given words k
+given-for (grammar-in-shape words matrix) = tt
 given-for (in-shape words matrix area) = tt
 given-for (start words matrix tokens cuts area) = start-given words matrix tokens cuts (length area)
 given-for (step words matrix area c) = step-given words matrix area c
 given-for (run words matrix area c budget) = run-given words matrix area c budget
 given-for (join words matrix area c) = join-given words matrix area c
+given-for (read-through words matrix tokens area) = read-given words matrix tokens (length area)
 given-for (report words matrix area out) = report-given words matrix area (length out)
 given-for (parse words tokens area out) = parse-given words tokens (length area) (length out)
 given-for (entry-tokens entries e tokens place) = tt

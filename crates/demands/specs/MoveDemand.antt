@@ -20,16 +20,17 @@ use Rattle.refusals.specs.declared.RunAnswer.the-variants as runs
 use Rattle.language.specs.Trees.{Span}
 use Rattle.machine.specs.States.{State, Called, refused, became, Ran, refusedRun, ran, step, run, join}
 use Rattle.machine.specs.TableOf.{tableOf}
-use Rattle.machine.specs.Schedules.{by-step, by-join}
+use Rattle.machine.specs.Schedules.{Turned, by-step, by-join}
 use Rattle.machine.specs.Allowed.{Steps, JoinsAt}
 use Rattle.machine.specs.AllowedExactly.{step-exactly, join-exactly}
 use Rattle.machine.specs.Counts.{RunNamed, run-exactly}
-use Rattle.area.specs.Layout.{need, encode, decode}
-use Rattle.area.specs.Shape.{grammarInShape, inShape}
+use Rattle.layout.specs.Layout.{need, encode, decode}
+use Rattle.matrix.specs.GrammarShape.{grammarInShape}
+use Rattle.area.specs.Shape.{inShape}
 use Rattle.shape.specs.InShape.{in-shape-parts, in-shape-holds}
 use Rattle.shape.specs.Safe.{Safe, safe-turned, safe-run}
-use Rattle.reader.specs.Calls.{calledAnswer, calledArea, ranAnswer, ranArea, stepCall, stepAnswer, stepArea, runCall, runAnswer, runArea, joinCall, joinAnswer, joinArea}
-use Rattle.demands.specs.OnWords.{reads, step-is, run-is, join-is, leaves}
+use Rattle.moving.specs.Calls.{calledAnswer, calledArea, ranAnswer, ranArea, stepAnswer, stepArea, runCall, runAnswer, runArea, joinAnswer, joinArea}
+use Rattle.moving.specs.OnWords.{reads, step-is, run-is, join-is, leaves}
 
 -- a step of chunk c is accepted and leaves the words of s′, a state of n tokens that keeps the rules; what stands beyond stays
 abbrev pub StepLeaves : List ℕ → List ℕ → List ℕ → List ℕ → ℕ → ℕ → State Span → Type 0
@@ -52,29 +53,35 @@ module _ (words matrix : List ℕ) (grammar : grammarInShape words matrix ≡ tr
   one-state : {u v : State Span} → Safe words n u → Safe words n v → encode n u ++ rest ≡ encode n v ++ rest → u ≡ v
   one-state a b e = sym (reads words matrix grammar a rest) ∙ ap decode e ∙ reads words matrix grammar b rest
 
-  -- step
-  pub step-demand : (c : ℕ) (s′ : State Span) → StepLeaves words matrix area rest n c s′ ↔ Steps (tableOf words matrix) c s s′
-  unfolding stepAnswer stepArea
-  step-demand c s′ = (
-    (λ h. to (step (tableOf words matrix) c s) refl (step-is words matrix grammar safe rest c) (h .0) (h .1) (h .2)),
-    (λ m. from (step-exactly (tableOf words matrix) c s s′ .0 m)),
-  )
+  -- a call that is the machine's call x: it is accepted and leaves the words of s′ exactly when x is s′
+  called-demand : {call : Called Span} (x : Called Span) (s′ : State Span) → call ≡ x → ((s″ : State Span) → x ≡ became s″ → Turned (tableOf words matrix) s s″)
+      → ((calledAnswer call ≡ Done) × Safe words n s′ × (calledArea call area ≡ encode n s′ ++ rest)) ↔ (x ≡ became s′)
+  called-demand {call} x s′ is turns = ((λ h. to x refl (h .0) (h .1) (h .2)), from)
     where
-      to : (x : Called Span) → step (tableOf words matrix) c s ≡ x → stepCall words matrix area c ≡ step (tableOf words matrix) c s
-          → stepAnswer words matrix area c ≡ Done → Safe words n s′ → stepArea words matrix area c ≡ encode n s′ ++ rest → Steps (tableOf words matrix) c s s′
-      to (refused why) q is done k w =
+      to : (y : Called Span) → x ≡ y → calledAnswer call ≡ Done → Safe words n s′ → calledArea call area ≡ encode n s′ ++ rest → x ≡ became s′
+      to (refused why) q done k w =
           let e : Refused why ≡ Done = sym (ap calledAnswer (is ∙ q)) ∙ done in
           let z : _≡_ {A = ℕ} 0 1 = cc in
           absurd (omega arith)
-      to (became s″) q is done k w =
-          let f : stepArea words matrix area c ≡ encode n s″ ++ rest = ap (λ x. calledArea x area) (is ∙ q) ∙ leaves words matrix grammar safe rest s″ in
-          let same : s″ ≡ s′ = one-state (safe-turned words matrix grammar safe (by-step c q)) k (sym f ∙ w) in
-          step-exactly (tableOf words matrix) c s s′ .1 (q ∙ ap became same)
+      to (became s″) q done k w =
+          let f : calledArea call area ≡ encode n s″ ++ rest = ap (λ y. calledArea y area) (is ∙ q) ∙ leaves words matrix grammar safe rest s″ in
+          let same : s″ ≡ s′ = one-state (safe-turned words matrix grammar safe (turns s″ q)) k (sym f ∙ w) in
+          q ∙ ap became same
 
-      from : step (tableOf words matrix) c s ≡ became s′ → StepLeaves words matrix area rest n c s′
-      from q =
-          let is = step-is words matrix grammar safe rest c ∙ q in
-          (ap calledAnswer is, safe-turned words matrix grammar safe (by-step c q), ap (λ x. calledArea x area) is ∙ leaves words matrix grammar safe rest s′)
+      from : x ≡ became s′ → (calledAnswer call ≡ Done) × Safe words n s′ × (calledArea call area ≡ encode n s′ ++ rest)
+      from q = (
+        ap calledAnswer (is ∙ q),
+        safe-turned words matrix grammar safe (turns s′ q),
+        ap (λ y. calledArea y area) (is ∙ q) ∙ leaves words matrix grammar safe rest s′,
+      )
+
+  -- step
+  pub step-demand : (c : ℕ) (s′ : State Span) → StepLeaves words matrix area rest n c s′ ↔ Steps (tableOf words matrix) c s s′
+  unfolding stepAnswer stepArea
+  step-demand c s′ =
+      let called = called-demand (step (tableOf words matrix) c s) s′ (step-is words matrix grammar safe rest c) (λ s″ q. by-step c q) in
+      let exactly = step-exactly (tableOf words matrix) c s s′ in
+      ((λ h. exactly .1 (called .0 h)), (λ m. called .1 (exactly .0 m)))
 
   -- run
   pub run-demand : (c budget j : ℕ) (s′ : State Span) → RunLeaves words matrix area rest n c budget j s′ ↔ RunNamed (tableOf words matrix) c budget s j s′
@@ -106,23 +113,10 @@ module _ (words matrix : List ℕ) (grammar : grammarInShape words matrix ≡ tr
   -- join
   pub join-demand : (c : ℕ) (s′ : State Span) → JoinLeaves words matrix area rest n c s′ ↔ JoinsAt c s s′
   unfolding joinAnswer joinArea
-  join-demand c s′ = ((λ h. to (join c s) refl (join-is words matrix grammar safe rest c) (h .0) (h .1) (h .2)), (λ m. from (join-exactly c s s′ .0 m)))
-    where
-      to : (x : Called Span) → join c s ≡ x → joinCall words matrix area c ≡ join c s
-          → joinAnswer words matrix area c ≡ Done → Safe words n s′ → joinArea words matrix area c ≡ encode n s′ ++ rest → JoinsAt c s s′
-      to (refused why) q is done k w =
-          let e : Refused why ≡ Done = sym (ap calledAnswer (is ∙ q)) ∙ done in
-          let z : _≡_ {A = ℕ} 0 1 = cc in
-          absurd (omega arith)
-      to (became s″) q is done k w =
-          let f : joinArea words matrix area c ≡ encode n s″ ++ rest = ap (λ x. calledArea x area) (is ∙ q) ∙ leaves words matrix grammar safe rest s″ in
-          let same : s″ ≡ s′ = one-state (safe-turned words matrix grammar safe (by-join c q)) k (sym f ∙ w) in
-          join-exactly c s s′ .1 (q ∙ ap became same)
-
-      from : join c s ≡ became s′ → JoinLeaves words matrix area rest n c s′
-      from q =
-          let is = join-is words matrix grammar safe rest c ∙ q in
-          (ap calledAnswer is, safe-turned words matrix grammar safe (by-join c q), ap (λ x. calledArea x area) is ∙ leaves words matrix grammar safe rest s′)
+  join-demand c s′ =
+      let called = called-demand (join c s) s′ (join-is words matrix grammar safe rest c) (λ s″ q. by-join c q) in
+      let exactly = join-exactly c s s′ in
+      ((λ h. exactly .1 (called .0 h)), (λ m. called .1 (exactly .0 m)))
 
 -- every lent area in shape is the words of a state that keeps the rules, and what stands beyond
 pub lent-state : (words matrix area : List ℕ) → getD area 2 0 < 65536 → inShape words matrix area ≡ true

@@ -1,7 +1,7 @@
 -- The matrix of an accepted load: any run that begins with its 4,096 bytes keeps the shape rules, and a reader knows the same table by it.
 -- Document 01: 15 "is never given to a start with the words and matrix of an accepted load"; "The matrix needs 4,096 bytes .. anything
 -- beyond is untouched".
--- Rests on Calls, on language's Loads and Matrix, machine's TableOf, and area's EndMarkOfShape.
+-- Rests on Calls, on language's Loads and Matrix, machine's TableOf, and matrix's EndMarkOfShape.
 --
 -- Main statements: own-bytes, shape-is, table-is; from below, for all here: ownTable, own-end-mark, own-laws, own-shape.
 use mathlib.Core.Path.{_≡_, sym, ap, subst, _∙_}
@@ -20,9 +20,9 @@ use Rattle.language.specs.Loads.{Accepted, loadAnswer, loadedBytes, loadBytes, 
 use Rattle.machine.specs.Spans.{spanOf}
 use Rattle.machine.specs.TableOf.{relationAt, tableOf, relation-of-words}
 pub use Rattle.machine.specs.TableOf.{ownTable, own-end-mark, own-laws}
-use Rattle.area.specs.Shape.{grammarInShape}
-use Rattle.area.specs.EndMarkOfShape.{matrix-in-shape}
-pub use Rattle.area.specs.EndMarkOfShape.{own-shape}
+use Rattle.matrix.specs.GrammarShape.{grammarInShape}
+use Rattle.matrix.specs.EndMarkOfShape.{matrix-in-shape}
+pub use Rattle.matrix.specs.EndMarkOfShape.{own-shape}
 use Rattle.demands.specs.Calls.{OfLoad}
 
 module _ {words : List ℕ} (accepted : Accepted words) where

@@ -3,7 +3,7 @@
 -- Document 01: "The front-to-back parse is C = 1, also offered as one call"; "The one-call parse checks 1 to 9 by number, then 11 for the work
 -- area, then 17 to 20, then 11 for the report"; "A stuck place is that of the unread b"; "Each report also gives the moves since start".
 -- Long enough: need(n, 1) words for the area, and three words for each of n reductions, of which a row of n tokens never makes more.
--- Rests on OwnMatrix, on reader's ParseCall and ParseGiven, area's Start and shape's Safe, and machine's GivenExactly and results' UncutRow.
+-- Rests on OwnMatrix, on parse's ParseCall and ParseGiven, start's Start and shape's Safe, and machine's GivenExactly and results' UncutRow.
 --
 -- Main definitions: RightTokens, UncutReader, entriesOf, ParseReports, GotStuck.
 -- Main statements: parse-accepts-exactly, parse-reports, parse-refuses, one-tree-only; the reader: uncut-reader; uncut-finished.
@@ -39,13 +39,13 @@ use Rattle.results.specs.UncutRow.{InLanguage, AxiomTree, FirstRefusal, first-r
 use Rattle.results.specs.UncutRow.{report-of-tree, refused-exactly, tree-in-language, one-axiom-tree}
 use Rattle.results.specs.UncutRow as uncut
 use Rattle.machine.specs.GivenExactly.{StuckSo, value-stuck, stuck-exactly, report-exactly, outcome-refuses}
-use Rattle.area.specs.Layout.{need}
-use Rattle.area.specs.Lengths.{few-reductions}
-use Rattle.area.specs.Start.{StartInput, NoTokens, no-tokens, TooMany, too-many, WrongToken, wrong-token, Startable, starts-exactly}
-use Rattle.area.specs.StartKept.{no-end}
+use Rattle.layout.specs.Layout.{need}
+use Rattle.layout.specs.Lengths.{few-reductions}
+use Rattle.start.specs.Start.{StartInput, NoTokens, no-tokens, TooMany, too-many, WrongToken, wrong-token, Startable, starts-exactly}
+use Rattle.start.specs.StartKept.{no-end}
 use Rattle.shape.specs.Safe.{Safe, safe-start, safe-scheduled}
-use Rattle.reader.specs.ParseCall.{ranOutcome, thenStart, parsedAnswer, parsedOut, parseOutcome, parseBegun, parseAnswer, parseOut}
-use Rattle.reader.specs.ParseGiven.{lent, checked-starts}
+use Rattle.parse.specs.ParseCall.{ranOutcome, thenStart, parsedAnswer, parsedOut, parseOutcome, parseBegun, parseAnswer, parseOut}
+use Rattle.parse.specs.ParseGiven.{lent, checked-starts}
 use Rattle.demands.specs.OwnMatrix.{ownTable, own-shape, own-end-mark, own-laws}
 
 -- 1 to 16,384 tokens in 1..T

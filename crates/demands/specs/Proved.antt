@@ -18,8 +18,8 @@ use Rattle.machine.specs.TableOf.{tableOf}
 use Rattle.machine.specs.Allowed.{Steps, JoinsAt}
 use Rattle.machine.specs.Counts.{RunNamed}
 use Rattle.results.specs.ReadThrough.{read-once}
-use Rattle.area.specs.Layout.{decode, beyondIn}
-use Rattle.area.specs.Start.{bad-state-given}
+use Rattle.layout.specs.Layout.{decode, beyondIn}
+use Rattle.start.specs.Start.{bad-state-given}
 use Rattle.demands.specs.GivenDemand.{given-for}
 use Rattle.demands.specs.AnswersDemand.{number-listed, lent-kept, beyond-kept, parse-area-left}
 use Rattle.demands.specs.Calls.{areaAfter}
@@ -31,7 +31,8 @@ use Rattle.demands.specs.Reached.{each-right, report-never-15, moves-cou
 use Rattle.demands.specs.SameReport.{same-but-moves, same-report, report-counts}
 use Rattle.demands.specs.Finishing.{some-move, finished-stays, lists-end, goes-on-finishes, can-finish}
 use Rattle.demands.specs.Contracts.{contracts, promise-kept, one-answer-only}
-use Rattle.demands.specs.Demands.{Demand-1-contracts, Demand-1, Demand-1-parse, Demand-2-parse, Demand-2-moves, Demand-2-reached, Demand-3, Demand-3-finishes, Start-never-15, tokensIn}
+use Rattle.demands.specs.Demands.{Demand-1-contracts, Demand-1, Demand-1-parse, Demand-2-parse, Demand-2-moves, Demand-2-reached}
+use Rattle.demands.specs.Demands.{Demand-3, Demand-3-finishes, Start-never-15, tokensIn}
 
 pub demand-1-contracts : Demand-1-contracts
 demand-1-contracts M = contracts

@@ -3,7 +3,7 @@
 -- Document 01: 15 is never given "for a state reached from such a load and start with those same words and matrix"; "All return number
 -- and value and leave lent memory unchanged"; "Each report also gives the moves since start, joins included".
 -- Since the list of calls is any list, what is said of the next call is said of every call of every list.
--- Rests on Standing, on area's StartKept, and on machine's Counts and results' Bounded.
+-- Rests on Standing, on start's StartKept, and on machine's Counts and results' Bounded.
 --
 -- Main definition: EachRight. Main statements: each-right, never-15, refused-changes-nothing, report-never-15, moves-counted, moves-few;
 -- in-shape-there, low-there.
@@ -26,14 +26,15 @@ use Rattle.machine.specs.Answers.{outcomeAnswer}
 use Rattle.results.specs.Bounded.{mostMoves, bounded}
 use Rattle.machine.specs.Counts.{moves-since-start}
 use Rattle.machine.specs.GivenExactly.{outcome-refuses}
-use Rattle.area.specs.Layout.{movesIn}
+use Rattle.layout.specs.Layout.{movesIn}
 use Rattle.shape.specs.Encoded.{moves-at, low-moves-at}
 use Rattle.area.specs.Shape.{inShape}
-use Rattle.area.specs.StartKept.{no-end}
+use Rattle.start.specs.StartKept.{no-end}
 use Rattle.report.specs.ReportCall.{reportOutcome, reportAnswer}
 use Rattle.demands.specs.Calls.{Call, matrixFor, callNumber, callMade, callArea, areaAfter, movesMade, OfLoad, AllOfLoad, no-call, and-call, Begun}
 use Rattle.demands.specs.OwnMatrix.{ownTable, own-end-mark, accepted, shape-is}
-use Rattle.demands.specs.OnWords.{stands, report-is}
+use Rattle.moving.specs.OnWords.{stands}
+use Rattle.demands.specs.OnWords.{report-is}
 use Rattle.demands.specs.Standing.{Standing, CallView, refused-so, moved-so, startable, standing-begun, standing-safe, standing-view, standing-call, standing-after}
 
 -- the numbers of a row's outcome: 16, 17 to 20, and 0 or 11 for a report
@@ -43,11 +44,11 @@ pub data OutcomeNumber (o : Outcome) (room : ℕ) : Type 0 where
   number-11 : reportNumber (outcomeAnswer o room) ≡ 11 → OutcomeNumber o room
   number-0 : reportNumber (outcomeAnswer o room) ≡ 0 → OutcomeNumber o room
 
-pub stuck-number : (why : Stuck) (place : ℕ) → (17 ≤ numberOf (refusalOf why place)) × (numberOf (refusalOf why place) ≤ 20)
-stuck-number noRelation place = (omega arith, omega arith)
-stuck-number noRule place = (omega arith, omega arith)
-stuck-number notAxiom place = (omega arith, omega arith)
-stuck-number sideBySide place = (omega arith, omega arith)
+pub at-17-20 : (why : Stuck) (place : ℕ) → (17 ≤ numberOf (refusalOf why place)) × (numberOf (refusalOf why place) ≤ 20)
+at-17-20 noRelation place = (omega arith, omega arith)
+at-17-20 noRule place = (omega arith, omega arith)
+at-17-20 notAxiom place = (omega arith, omega arith)
+at-17-20 sideBySide place = (omega arith, omega arith)
 
 pub outcome-number : (s : State Span) (room : ℕ) → OutcomeNumber (outcome s) room
 outcome-number s room = go (outcome s) refl
@@ -60,7 +61,7 @@ outcome-number s room = go (outcome s) refl
         → OutcomeNumber (refusedRow refusal) room
     of refusal (inl e) = number-16 (ap refusedRow e) (ap numberOf e)
     of refusal (inr (why, place, e)) =
-        let n = stuck-number why place in
+        let n = at-17-20 why place in
         let z : numberOf refusal ≡ numberOf (refusalOf why place) = ap numberOf e in
         number-stuck (omega arith) (omega arith)
 

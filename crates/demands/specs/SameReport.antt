@@ -3,7 +3,7 @@
 -- Document 01: "The front-to-back parse is C = 1, also offered as one call"; "a report writes just these reductions, put in order, and
 -- gives this count"; "this is the front-to-back order".
 -- The report run is any: where it is too short, both answer 11 with the same value. The parse's area needs need(n, 1) words.
--- Rests on Reached and ParseDemand, on area's StartKept, and on results' Confluent.
+-- Rests on Reached and ParseDemand, on start's StartKept, and on results' Confluent.
 --
 -- Main statements: same-but-moves, same-report; report-counts.
 use mathlib.Core.Path.{_≡_, refl, sym, ap, _∙_}
@@ -26,10 +26,10 @@ use Rattle.results.specs.Confluent.{withoutMoves, uncut-outcome}
 use Rattle.results.specs.ReadThrough.{read-through-schedule}
 use Rattle.machine.specs.Counts.{moves-since-start}
 use Rattle.machine.specs.GivenExactly.{report-exactly}
-use Rattle.area.specs.Layout.{need}
-use Rattle.area.specs.Start.{StartInput, no-tokens, too-many, wrong-token, Startable}
-use Rattle.area.specs.StartKept.{no-end}
-use Rattle.reader.specs.ParseCall.{parseOutcome, parseAnswer, parseOut}
+use Rattle.layout.specs.Layout.{need}
+use Rattle.start.specs.Start.{StartInput, no-tokens, too-many, wrong-token, Startable}
+use Rattle.start.specs.StartKept.{no-end}
+use Rattle.parse.specs.ParseCall.{parseOutcome, parseAnswer, parseOut}
 use Rattle.report.specs.ReportCall.{reportOutcome, reportAnswer, reportOut}
 use Rattle.demands.specs.Calls.{Call, areaAfter, movesMade, OfLoad, AllOfLoad, Begun}
 use Rattle.demands.specs.OwnMatrix.{ownTable, own-end-mark, accepted}

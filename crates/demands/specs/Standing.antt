@@ -1,7 +1,7 @@
 -- What stands in the area after one accepted load, one accepted start and any list of step, run and join calls: the words of a state
 -- that the machine's named moves reach from the start, as many of them as the calls' answers tell of.
 -- Document 01, "Moves of a chunk", and 15: "never .. for a state reached from such a load and start with those same words and matrix".
--- Rests on Calls, OnWords and OwnMatrix, on area's Start and shape's Safe, and on machine's Schedules, Counts and GivenExactly.
+-- Rests on Calls, OnWords and OwnMatrix, on start's Start and shape's Safe, and on machine's Schedules, Counts and GivenExactly.
 --
 -- Main definitions: Standing, CallView. Main statements: standing-begun, call-view, standing-call, standing-after.
 use mathlib.Core.Path.{_≡_, refl, sym, ap, subst, _∙_}
@@ -15,7 +15,7 @@ use Rattle.refusals.specs.declared.Refusal.{Refusal}
 use Rattle.refusals.specs.declared.Refusal.the-variants.{NoChunk, AtRest, NoJoin}
 use Rattle.refusals.specs.declared.Answer.the-variants.{Done, Refused}
 use Rattle.refusals.specs.declared.RunAnswer.the-variants as runs
-use Rattle.refusals.specs.Refusals.{numberOf}
+use Rattle.refusals.specs.Refusals.{numberOf, answerNumber}
 use Rattle.language.specs.Words.{grammarOf}
 use Rattle.language.specs.Matrix.{matrixOf}
 use Rattle.language.specs.Loads.{loadAnswer}
@@ -23,17 +23,18 @@ use Rattle.language.specs.Trees.{Span}
 use Rattle.machine.specs.Moves.{Table}
 use Rattle.machine.specs.States.{State, Called, refused, became, Ran, refusedRun, ran, step, run, join, start}
 use Rattle.machine.specs.TableOf.{tableOf}
-use Rattle.machine.specs.Schedules.{by-step, by-join, Schedule, no-turn, one-turn}
+use Rattle.machine.specs.Schedules.{Turned, by-step, by-join, Schedule, no-turn, one-turn}
 use Rattle.machine.specs.Counts.{made-scheduled, run-exactly}
 use Rattle.machine.specs.GivenExactly.{step-refuses, run-refuses, join-refuses}
-use Rattle.area.specs.Layout.{need, encode}
-use Rattle.area.specs.Shape.{grammarInShape}
-use Rattle.area.specs.Start.{Startable, startedArea, startArea, starts-exactly}
+use Rattle.layout.specs.Layout.{need, encode}
+use Rattle.matrix.specs.GrammarShape.{grammarInShape}
+use Rattle.start.specs.Start.{Startable, startedArea, startArea, starts-exactly}
 use Rattle.shape.specs.Safe.{Safe, safe-start, safe-scheduled}
-use Rattle.reader.specs.Calls.{calledAnswer, calledArea, ranAnswer, ranArea, stepCall, stepAnswer, stepArea, runCall, runAnswer, runArea, joinCall, joinAnswer, joinArea}
-use Rattle.demands.specs.Calls.{Call, a-step, a-run, a-join, matrixFor, callNumber, callMade, callArea, areaAfter, movesMade, OfLoad, AllOfLoad, no-call, and-call, Begun}
+use Rattle.moving.specs.Calls.{calledAnswer, calledArea, ranAnswer, ranArea, stepAnswer, stepArea, runCall, runAnswer, runArea, joinAnswer, joinArea}
+use Rattle.demands.specs.Calls.{Call, a-step, a-run, a-join, matrixFor, callNumber, oneIfDone, callMade, callArea, areaAfter, movesMade}
+use Rattle.demands.specs.Calls.{OfLoad, AllOfLoad, no-call, and-call, Begun}
 use Rattle.demands.specs.OwnMatrix.{ownTable, own-shape, accepted, shape-is, table-is}
-use Rattle.demands.specs.OnWords.{step-is, run-is, join-is, leaves}
+use Rattle.moving.specs.OnWords.{step-is, run-is, join-is, leaves}
 
 -- schedules one after the other
 pub schedule-append : {table : Table Span} {s s′ s″ : State Span} {i j : ℕ} → Schedule table s i s′ → Schedule table s′ j s″ → Schedule table s (i + j) s″
@@ -75,19 +76,20 @@ module _ (words bytes : List ℕ) (loads : loadAnswer words (length bytes) ≡ D
     abbrev table : tableOf words matrix ≡ ownTable words
     table = table-is words bytes loads matrix own
 
+    -- a step or a join, whose answer and area are those of the machine's call x
+    called-view : (call : Call) (x : Called Span) → callNumber words area call ≡ answerNumber (calledAnswer x) → callMade words area call ≡ oneIfDone (calledAnswer x)
+        → callArea words area call ≡ calledArea x area → ((why : Refusal) → x ≡ refused why → (12 ≤ numberOf why) × (numberOf why ≤ 14))
+        → ((s′ : State Span) → x ≡ became s′ → Turned (ownTable words) s s′) → CallView words n s rest area call
+    called-view call (refused why) number made left low turns = let a = low why refl in refused-so (rw number (a .0)) (rw number (a .1)) made left
+    called-view call (became s′) number made left low turns =
+        moved-so s′ number (left ∙ leaves words matrix grammar safe rest s′) (rw made (one-turn (turns s′ refl) no-turn))
+
     step-view : (c : ℕ) → CallView words n s rest area (a-step matrix c)
     unfolding stepAnswer stepArea
-    step-view c = go (step (ownTable words) c s) refl (step-is words matrix grammar safe rest c ∙ ap (λ t. step t c s) table)
-      where
-        go : (x : Called Span) → step (ownTable words) c s ≡ x → stepCall words matrix area c ≡ step (ownTable words) c s
-            → CallView words n s rest area (a-step matrix c)
-        go (refused why) q is =
-            let a = at-12-13 why (step-refuses (ownTable words) c s why q) in
-            let e : stepAnswer words matrix area c ≡ Refused why = ap calledAnswer (is ∙ q) in
-            refused-so (rw e (a .0)) (rw e (a .1)) (rw e) (ap (λ x. calledArea x area) (is ∙ q))
-        go (became s′) q is =
-            let e : stepAnswer words matrix area c ≡ Done = ap calledAnswer (is ∙ q) in
-            moved-so s′ (rw e) (ap (λ x. calledArea x area) (is ∙ q) ∙ leaves words matrix grammar safe rest s′) (rw e (one-turn (by-step c q) no-turn))
+    step-view c =
+        let is = step-is words matrix grammar safe rest c ∙ ap (λ t. step t c s) table in
+        called-view (a-step matrix c) (step (ownTable words) c s) (ap (λ x. answerNumber (calledAnswer x)) is) (ap (λ x. oneIfDone (calledAnswer x)) is)
+        (ap (λ x. calledArea x area) is) (λ why q. at-12-13 why (step-refuses (ownTable words) c s why q)) (λ s′ q. by-step c q)
 
     run-view : (c budget : ℕ) → CallView words n s rest area (a-run matrix c budget)
     unfolding runAnswer runArea
@@ -106,16 +108,10 @@ module _ (words bytes : List ℕ) (loads : loadAnswer words (length bytes) ≡ D
 
     join-view : (c : ℕ) → CallView words n s rest area (a-join matrix c)
     unfolding joinAnswer joinArea
-    join-view c = go (join c s) refl (join-is words matrix grammar safe rest c)
-      where
-        go : (x : Called Span) → join c s ≡ x → joinCall words matrix area c ≡ join c s → CallView words n s rest area (a-join matrix c)
-        go (refused why) q is =
-            let a = at-12-14 why (join-refuses c s why q) in
-            let e : joinAnswer words matrix area c ≡ Refused why = ap calledAnswer (is ∙ q) in
-            refused-so (rw e (a .0)) (rw e (a .1)) (rw e) (ap (λ x. calledArea x area) (is ∙ q))
-        go (became s′) q is =
-            let e : joinAnswer words matrix area c ≡ Done = ap calledAnswer (is ∙ q) in
-            moved-so s′ (rw e) (ap (λ x. calledArea x area) (is ∙ q) ∙ leaves words matrix grammar safe rest s′) (rw e (one-turn (by-join c q) no-turn))
+    join-view c =
+        let is = join-is words matrix grammar safe rest c in
+        called-view (a-join matrix c) (join c s) (ap (λ x. answerNumber (calledAnswer x)) is) (ap (λ x. oneIfDone (calledAnswer x)) is)
+        (ap (λ x. calledArea x area) is) (λ why q. at-12-14 why (join-refuses c s why q)) (λ s′ q. by-join c q)
 
   pub call-view : (call : Call) → OfLoad words bytes (matrixFor call) → CallView words n s rest area call
   call-view (a-step matrix c) own = step-view matrix own c

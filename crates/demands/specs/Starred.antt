@@ -1,7 +1,7 @@
 -- The starred samples of document 01, all of them, as one table under one theorem, computed from the definitions that the contracts cite.
 -- Document 01, "Sample rows": "Cases with * are the proved set"; "How far promises go": "The starred cases are shown from the
 -- definitions as a single table under a single theorem".
--- Rests on language's Loads, area's Start, reader's Calls and ParseCall, and report's ReportCall; and on OnWords and OwnMatrix, by which an area's
+-- Rests on language's Loads, start's Start, moving's Calls, parse's ParseCall and report's ReportCall; and on OnWords and OwnMatrix, by which an area's
 -- words are worked out as those of a state, and tests of the whole matrix are passed over.
 --
 -- Main definitions: Question, Reply, replyTo, cases. Main statements: starred; begun-K.
@@ -33,16 +33,17 @@ use Rattle.machine.specs.States.{State, Called, refused, became, Ran, refusedRu
 use Rattle.machine.specs.Schedules.{by-join}
 use Rattle.results.specs.Bounded.{mostMoves}
 use Rattle.machine.specs.Answers.{outcomeAnswer, outcomeOut}
-use Rattle.area.specs.Layout.{need, zeros, encode, decode}
-use Rattle.area.specs.Shape.{grammarInShape}
-use Rattle.area.specs.Start.{StartInput, emptyStage, lengthStage, tokenStage, cutStage, roomStage, startAnswer, startedArea, startArea, starts-exactly}
+use Rattle.layout.specs.Layout.{need, zeros, encode, decode}
+use Rattle.matrix.specs.GrammarShape.{grammarInShape}
+use Rattle.start.specs.Start.{StartInput, emptyStage, lengthStage, tokenStage, cutStage, roomStage, startAnswer, startedArea, startArea, starts-exactly}
 use Rattle.shape.specs.Safe.{Safe, safe-start, safe-turned, safe-run}
-use Rattle.reader.specs.Calls.{withState, calledArea, ranArea, runCall, runArea, joinCall, joinArea}
-use Rattle.reader.specs.ParseCall.{thenStart, parsedAnswer, parsedOut, parseOutcome, parseBegun, parseAnswer, parseOut}
+use Rattle.moving.specs.Calls.{withState, calledArea, ranArea, runCall, runArea, joinCall, joinArea}
+use Rattle.parse.specs.ParseCall.{thenStart, parsedAnswer, parsedOut, parseOutcome, parseBegun, parseAnswer, parseOut}
 use Rattle.report.specs.ReportCall.{reportOutcome, reportAnswer, reportOut}
 use Rattle.demands.specs.Calls.{Begun}
 use Rattle.demands.specs.OwnMatrix.{ownTable, own-shape, shape-is, table-is}
-use Rattle.demands.specs.OnWords.{reads, run-is, join-is, report-is, leaves}
+use Rattle.moving.specs.OnWords.{reads, run-is, join-is, leaves}
+use Rattle.demands.specs.OnWords.{report-is}
 
 -- ---- what a sample asks, and what it says
 
@@ -318,7 +319,8 @@ loads-19 = refl
 
 -- every starred sample
 pub starred : AllAsSaid cases
-unfolding parseOutcome loadAnswer setChecked leftSetAnswer rightSetAnswer conflictStage clash grammarOf matrixOf leftSet leftMember inPlay mirrored relationOf equalTest yieldsTest takesTest
+unfolding parseOutcome loadAnswer setChecked leftSetAnswer rightSetAnswer conflictStage clash grammarOf matrixOf leftSet leftMember inPlay mirrored
+    relationOf equalTest yieldsTest takesTest
 starred =
     as-said refl (as-said refl (as-said refl (as-said refl
     (as-said (parses wordsK loads-K (1 ∷ []))

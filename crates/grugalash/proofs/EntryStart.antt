@@ -1,48 +1,21 @@
 -- Where the tokens of a report entry start: at its second word where the entry stands, and at place 0 otherwise.
--- Rests on report's ReportCall.
+-- Rests on report's ReportCall and EntryTests.
 --
--- Main statements: inside, outside; stands, stands-not.
+-- Main statements: stands, stands-not.
 use mathlib.Core.Path.{_≡_}
-use mathlib.Core.Bool.{true, false, _||_}
-use mathlib.Core.Logic.{⊎-elim}
 use mathlib.Core.List.{List}
-use Prim.Native.Nat.{ℕ, _+_, _*_, _≤_, _<_}
-use native.Mathlib.Omega.{arith}
-use lib.Dec.{ltb}
-use lib.ListN.{length, getD}
-use Rattle.laws.specs.Tests.{and-both, both-and, or-cases, or-first, or-second, not-both, false-unless, leb-true, le-leb, ltb-true, ltb-false}
-use Rattle.report.specs.ReportCall.{entryStands, entryStart}
+use Prim.Native.Nat.{ℕ, _+_, _*_, _≤_}
+use lib.ListN.{length}
+use Rattle.report.specs.ReportCall.{secondWord, thirdWord, entryStart}
+use Rattle.report.specs.EntryTests.{entry-stands, entry-fails}
 
 module _ (report : List ℕ) (e count : ℕ) where
-  abbrev first : ℕ
-  first = getD report (3 * e + 1) 0
-
-  abbrev after : ℕ
-  after = getD report (3 * e + 2) 0
-
-  -- the code's test of the two words, passed and failed
-  pub inside : (ltb after first || ltb count after) ≡ false → (first ≤ after) × (after ≤ count)
-  inside t = (
-    ltb-false after first (false-unless _ (λ p. not-both _ (or-first _ (ltb count after) p) t)),
-    ltb-false count after (false-unless _ (λ p. not-both _ (or-second (ltb after first) _ p) t)),
-  )
-
-  pub outside : (ltb after first || ltb count after) ≡ true → first ≤ after → after ≤ count → ⊥
-  outside t b d =
-      ⊎-elim (λ p. let h : after < first = ltb-true after first p in omega arith) (λ p. let h : count < after = ltb-true count after p in omega arith)
-      (or-cases (ltb after first) (ltb count after) t)
-
-  pub stands : 3 * e + 3 ≤ length report → first ≤ after → after ≤ count → first ≡ entryStart report e count
+  pub stands : 3 * e + 3 ≤ length report → secondWord report e ≤ thirdWord report e → thirdWord report e ≤ count
+      → secondWord report e ≡ entryStart report e count
   unfolding entryStart
-  stands a b d =
-      let h : entryStands report e count ≡ true = both-and _ _ (le-leb _ _ a) (both-and _ _ (le-leb _ _ b) (le-leb _ _ d)) in
-      rw (h, entryStart)
+  stands a b d = rw (entry-stands report e count a b d, entryStart)
 
-  pub stands-not : (3 * e + 3 ≤ length report → first ≤ after → after ≤ count → ⊥) → 0 ≡ entryStart report e count
+  pub stands-not : (3 * e + 3 ≤ length report → secondWord report e ≤ thirdWord report e → thirdWord report e ≤ count → ⊥)
+      → 0 ≡ entryStart report e count
   unfolding entryStart
-  stands-not never =
-      let h : entryStands report e count ≡ false = false-unless _ (λ t.
-      let p = and-both _ _ t in
-      let q = and-both _ _ (p .1) in
-      never (leb-true _ _ (p .0)) (leb-true _ _ (q .0)) (leb-true _ _ (q .1))) in
-      rw (h, entryStart)
+  stands-not never = rw (entry-fails report e count never, entryStart)

@@ -9,29 +9,29 @@ ghost use Rattle.language.specs.Checks.{checkSymbols, checkWords};
 ghost use Rattle.language.specs.Loads.{loadAnswer, loadBytes, leftSetAnswer, rightSetAnswer};
 ghost use Rattle.refusals.specs.Refusals.{answerNumber, answerValue, setNumber, setValue, setSize, runNumber, runValue, reportNumber, reportValue, reportMoves};
 ghost use Rattle.area.specs.Shape.{inShape};
-ghost use Rattle.area.specs.Start.{startAnswer, startArea};
-ghost use Rattle.reader.specs.Calls.{stepAnswer, stepArea, runAnswer, runArea, joinAnswer, joinArea};
-ghost use Rattle.reader.specs.ParseCall.{parseAnswer, parseArea, parseOut};
+ghost use Rattle.start.specs.Start.{startAnswer, startArea};
+ghost use Rattle.moving.specs.Calls.{stepAnswer, stepArea, runAnswer, runArea, joinAnswer, joinArea};
+ghost use Rattle.parse.specs.ParseCall.{parseAnswer, parseArea, parseOut};
 ghost use Rattle.report.specs.ReportCall.{reportAnswer, reportOut, entryStart, entryTokens};
 
-// `table::check_symbols`.
+// `words::check_symbols`.
 #[no_mangle]
 pub extern "C" fn grugalash_check_symbols(words: &[u16], value: &mut u32) -> u32
     ensures { λ r. ⌜ r ≡ answerNumber (checkSymbols (now (words .entry))) ⌝ }
     ensures { λ _. ⌜ now (value .exit) ≡ answerValue (checkSymbols (now (words .entry))) ⌝ }
 {
-    let answer = table::check_symbols(words);
+    let answer = words::check_symbols(words);
     *value = answers::value(answer);
     answers::number(answer)
 }
 
-// `table::check_words`.
+// `words::check_words`.
 #[no_mangle]
 pub extern "C" fn grugalash_check_words(words: &[u16], value: &mut u32) -> u32
     ensures { λ r. ⌜ r ≡ answerNumber (checkWords (now (words .entry))) ⌝ }
     ensures { λ _. ⌜ now (value .exit) ≡ answerValue (checkWords (now (words .entry))) ⌝ }
 {
-    let answer = table::check_words(words);
+    let answer = words::check_words(words);
     *value = answers::value(answer);
     answers::number(answer)
 }
@@ -92,7 +92,7 @@ pub extern "C" fn grugalash_in_shape(words: &[u16], matrix: &[u8], area: &[u16])
     area::in_shape(words, matrix, area)
 }
 
-// `area::start`.
+// `start::start`.
 #[no_mangle]
 pub extern "C" fn grugalash_start(
     words: &[u16],
@@ -106,7 +106,7 @@ pub extern "C" fn grugalash_start(
     ensures { λ _. ⌜ now (value .exit) ≡ answerValue (startAnswer (now (words .entry)) (now (matrix .entry)) (now (tokens .entry)) (now (cuts .entry)) (length (now (area .entry)))) ⌝ }
     ensures { λ _. ⌜ now (area .exit) ≡ startArea (now (words .entry)) (now (matrix .entry)) (now (tokens .entry)) (now (cuts .entry)) (now (area .entry)) ⌝ }
 {
-    let answer = area::start(words, matrix, tokens, cuts, area);
+    let answer = start::start(words, matrix, tokens, cuts, area);
     *value = answers::value(answer);
     answers::number(answer)
 }
@@ -187,7 +187,7 @@ pub extern "C" fn grugalash_report(
     answers::report_number(answer)
 }
 
-// `reader::parse`.
+// `parse::parse`.
 #[no_mangle]
 pub extern "C" fn grugalash_parse(
     words: &[u16],
@@ -203,7 +203,7 @@ pub extern "C" fn grugalash_parse(
     ensures { λ _. ⌜ now (area .exit) ≡ parseArea (now (words .entry)) (now (tokens .entry)) (now (area .entry)) ⌝ }
     ensures { λ _. ⌜ now (out .exit) ≡ parseOut (now (words .entry)) (now (tokens .entry)) (length (now (area .entry))) (now (out .entry)) ⌝ }
 {
-    let answer = reader::parse(words, tokens, area, out);
+    let answer = parse::parse(words, tokens, area, out);
     *entries = answers::report_value(answer);
     *moves = answers::report_moves(answer);
     answers::report_number(answer)

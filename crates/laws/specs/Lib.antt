@@ -1,3 +1,5 @@
+pub mod Ascii
+pub mod Decimals
 pub mod Least
 pub mod Masks
 pub mod Parts

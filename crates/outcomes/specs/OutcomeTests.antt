@@ -4,28 +4,26 @@
 --
 -- Main definition: Answered.
 -- Main statements: several, is-stuck, still-moves, at-rest (the outcome, test by test); refuses, passed-on, no-room, room (the answer, and the run).
-use mathlib.Core.Path.{_≡_, refl, sym, ap, ap₂, _∙_}
+use mathlib.Core.Path.{_≡_, refl, sym, ap, _∙_}
 use mathlib.Core.Bool.{Bool, true, false}
 use mathlib.Core.List.{List, _++_}
-use Prim.Native.Nat.{ℕ, suc, _+_, _*_, _-_, _≤_, _<_}
+use Prim.Native.Nat.{ℕ, _+_, _*_, _-_, _≤_, _<_}
 use native.Mathlib.Omega.{arith}
-use lib.Dec.{eqb, ltb}
-use lib.ListN.{length, getD, take, drop}
-use lib.Seq.{take-take, drop-at}
-use Rattle.laws.specs.Picks.{pick}
+use lib.Dec.{ltb}
+use lib.ListN.{length, getD, drop}
 use Rattle.laws.specs.Tests.{lt-ltb, le-ltb, le-leb, lt-leb}
 use Rattle.refusals.specs.declared.Refusal.{Refusal}
 use Rattle.refusals.specs.declared.Refusal.the-variants.{Unfinished, NoRoom}
 use Rattle.refusals.specs.declared.ReportAnswer.{ReportAnswer}
 use Rattle.refusals.specs.declared.ReportAnswer.the-variants.{Report, Refused}
+use Rattle.refusals.specs.Refusals.{stuckRefusal}
 use Rattle.language.specs.Trees.{Span, Reduction}
 use Rattle.language.specs.Reports.{putInOrder, reportWords}
-use Rattle.machine.specs.States.{Outcome, refusedRow, reported}
+use Rattle.machine.specs.States.{Outcome, refusedRow}
 use Rattle.machine.specs.Answers.{outcomeAnswer, outcomeOut}
-use Rattle.area.specs.Layout.{madeAtWord, readMade}
-use Rattle.area.specs.Lengths.{length-report}
+use Rattle.layout.specs.Layout.{madeAtWord, readMade}
 use Rattle.outcomes.specs.EntryWords.{entries-length, sorted-length}
-use Rattle.outcomes.specs.OutcomeWords.{noneLive, stuckRefusal, wordsReport, wordsOutcome}
+use Rattle.outcomes.specs.OutcomeWords.{noneLive, wordsReport, wordsOutcome}
 
 -- ---- the outcome, by the tests in the order of the code
 

@@ -2,9 +2,9 @@
 -- the reductions made and the count of moves. Nothing is parsed anew.
 -- Document 01: "a report writes just these reductions, put in order, and gives this count, and parses nothing anew"; "16 UNFINISHED:
 -- several chunks live, or the one not at rest"; "17 .. 20: the finished row stuck so", with the place of the unread symbol.
--- Rests on area's Layout and Kept and shape's Encoded and ShapeExactly, and on machine's States.
+-- Rests on refusals' stuckRefusal, on layout's Layout and Kept and shape's Encoded and ShapeExactly, and on machine's States.
 --
--- Main definitions: noneLive, stuckRefusal, wordsReport, wordsOutcome, Reportable. Main statements: outcome-words, reportable.
+-- Main definitions: noneLive, wordsReport, wordsOutcome, Reportable. Main statements: outcome-words, reportable.
 use mathlib.Core.Path.{_≡_, refl, sym, ap, _∙_}
 use mathlib.Core.Bool.{Bool, true, false}
 use mathlib.Core.List.{List, [], _∷_, _++_}
@@ -17,8 +17,8 @@ use lib.ListN.{length, getD, drop, length-append}
 use Rattle.laws.specs.Picks.{pick}
 use Rattle.laws.specs.Parts.{drop-past, getD-past}
 use Rattle.laws.specs.Tests.{lt-ltb, le-ltb}
-use Rattle.refusals.specs.declared.Refusal.{Refusal}
 use Rattle.refusals.specs.declared.Refusal.the-variants.{Unfinished, NoRelation, NoRule, NotAxiom, SideBySide}
+use Rattle.refusals.specs.Refusals.{stuckRefusal}
 use Rattle.language.specs.Symbols.{Symbol, terminal, nonterminal}
 use Rattle.language.specs.Trees.{Span, Reduction}
 use Rattle.language.specs.Reports.{putInOrder}
@@ -27,9 +27,9 @@ use Rattle.machine.specs.Moves.{noRelation, noRule, notAxiom, sideBySide}
 use Rattle.machine.specs.Chunks.{Status, running, stuck, Chunk}
 use Rattle.machine.specs.States.{State, Outcome, refusedRow, reported, live, outcomeOf, outcomeOfLive, outcome}
 use Rattle.machine.specs.Starts.{symbolsAlong}
-use Rattle.area.specs.Layout.{need, size, stackSize, unreadSize, chunkSize, statusWord, row, rows, encode, madeAtWord, spanAt, readMade, movesIn, decode}
-use Rattle.area.specs.Kept.{Lies, first-end, last-end, within, Tiles, tile, FirstLive, first-live, not-stuck, stuck-fine, AllStuckFine, and-chunk}
-use Rattle.area.specs.Lengths.{stack-size, tiles-end, encode-length, few-reductions}
+use Rattle.layout.specs.Layout.{need, size, stackSize, unreadSize, chunkSize, statusWord, row, rows, encode, madeAtWord, spanAt, readMade, movesIn, decode}
+use Rattle.layout.specs.Kept.{Lies, first-end, last-end, within, Tiles, tile, FirstLive, first-live, not-stuck, stuck-fine, AllStuckFine, and-chunk}
+use Rattle.layout.specs.Lengths.{stack-size, tiles-end, encode-length, few-reductions}
 use Rattle.shape.specs.Tiling.{tiles-split}
 use Rattle.shape.specs.Walks.{status-word}
 use Rattle.shape.specs.Encoded.{fromSlots, table-at, count-at}
@@ -41,11 +41,6 @@ use Rattle.shape.specs.ShapeExactly.{HoldsState}
 abbrev pub noneLive : ℕ → List ℕ → ℕ → Bool
 noneLive zero area i = true
 noneLive (suc k) area i = pick (eqb (getD area i 0) 0) (noneLive k area (i + 5)) false
-
--- the refusal of a row stuck with this status at this place
-abbrev pub stuckRefusal : ℕ → ℕ → Refusal
-stuckRefusal status place =
-    pick (eqb status 17) (NoRelation place) (pick (eqb status 18) (NoRule place) (pick (eqb status 19) (NotAxiom place) (SideBySide place)))
 
 -- the report of the reductions that the area holds
 unfoldable pub wordsReport : List ℕ → Outcome

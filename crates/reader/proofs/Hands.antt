@@ -1,5 +1,5 @@
 -- What is at hand after each store of a move: the hand with that word changed is what the area holds then.
--- Rests on AtHand, MoveWords and Ready.
+-- Rests on Ready, and on moving's AtHand and MoveWords.
 --
 -- Main statements: hand-rests; hand-counted, still-few, hand-ticks; over-roomy; hand-pushed, hand-stuck, hand-accepted, hand-reduced.
 use mathlib.Core.Path.{_≡_, refl, sym, ap, subst, _∙_}
@@ -10,11 +10,12 @@ use native.Mathlib.Omega.{arith}
 use lib.Dec.{eqb}
 use lib.ListN.{length, getD, set, length-set}
 use lib.Seq.{getD-set-other, getD-set-same}
-use Rattle.area.specs.Layout.{tableAt, rowWord, slotWord, movesIn, madeAtWord}
-use Rattle.reader.specs.declared.moves.Hand.{Hand}
-use Rattle.reader.specs.AtHand.{AtHand}
-use Rattle.reader.specs.MoveWords.{headOf, slotAt, tickWords, putWords, endedWords, clearedWords, overWords, notedWords, replacedWords, madeWords, Ticks, Pushable, Stickable, Acceptable, Roomy, Reducible}
-use Rattle.reader.specs.Moved.{restsBy, restsIn}
+use Rattle.layout.specs.Layout.{tableAt, rowWord, slotWord, movesIn, madeAtWord}
+use Rattle.moving.specs.declared.Hand.{Hand}
+use Rattle.moving.specs.AtHand.{AtHand}
+use Rattle.moving.specs.MoveWords.{headOf, slotAt, tickWords, putWords, endedWords, clearedWords, overWords, notedWords, replacedWords, madeWords}
+use Rattle.moving.specs.MoveWords.{Ticks, Pushable, Stickable, Acceptable, Roomy, Reducible}
+use Rattle.moving.specs.Moved.{restsBy, restsIn}
 use Rattle.reader.proofs.Ready.{cleared-length, cleared-before, over-before, over-length, replaced-before, replaced-roomy}
 use Rattle.reader.proofs.Zeroing.{ended-zeroed}
 
@@ -26,7 +27,8 @@ pub hand-counted : {area : List ℕ} {c : ℕ} {h : Hand} → AtHand area c h �
 hand-counted a long low few = record { long = long; low = low; few = few; count = a .moves }
 
 -- .. where no move was counted since there were few enough
-pub still-few : {area area′ : List ℕ} {c : ℕ} {h r : Hand} → AtHand area c h → AtHand area′ c r → r .moves ≡ h .moves → getD area 2 0 < 65536 → getD area 3 0 < 65535 → getD area′ 3 0 < 65535
+pub still-few : {area area′ : List ℕ} {c : ℕ} {h r : Hand} → AtHand area c h → AtHand area′ c r → r .moves ≡ h .moves
+    → getD area 2 0 < 65536 → getD area 3 0 < 65535 → getD area′ 3 0 < 65535
 still-few a b e low few = omega (arith, a .moves, b .moves, e, low, few)
 
 -- ---- one store
@@ -53,7 +55,8 @@ module _ {area : List ℕ} {c : ℕ} {h : Hand} (a : AtHand area c h) (v : ℕ) 
   hand-beyond : (i : ℕ) → tableAt c 5 ≤ i → AtHand (set area i v) c h
   hand-beyond i l = hand-same a (λ j p q. getD-set-other area i j v 0 (omega arith))
 
-  hand-status : tableAt c 0 < length area → AtHand (set area (tableAt c 0) v) c (record { status = v; from = h .from; head = h .head; end = h .end; marks = h .marks; reductions = h .reductions; moves = h .moves })
+  hand-status : tableAt c 0 < length area → AtHand (set area (tableAt c 0) v) c
+      (record { status = v; from = h .from; head = h .head; end = h .end; marks = h .marks; reductions = h .reductions; moves = h .moves })
   hand-status l = record {
     status = sym (getD-set-same area (tableAt c 0) v 0 l);
     from = kept (tableAt c 0) (tableAt c 1) (omega arith) (a .from);
@@ -64,7 +67,8 @@ module _ {area : List ℕ} {c : ℕ} {h : Hand} (a : AtHand area c h) (v : ℕ) 
     moves = counts (tableAt c 0) (omega arith);
   }
 
-  hand-head : tableAt c 2 < length area → AtHand (set area (tableAt c 2) v) c (record { status = h .status; from = h .from; head = v; end = h .end; marks = h .marks; reductions = h .reductions; moves = h .moves })
+  hand-head : tableAt c 2 < length area → AtHand (set area (tableAt c 2) v) c
+      (record { status = h .status; from = h .from; head = v; end = h .end; marks = h .marks; reductions = h .reductions; moves = h .moves })
   hand-head l = record {
     status = kept (tableAt c 2) (tableAt c 0) (omega arith) (a .status);
     from = kept (tableAt c 2) (tableAt c 1) (omega arith) (a .from);
@@ -75,7 +79,8 @@ module _ {area : List ℕ} {c : ℕ} {h : Hand} (a : AtHand area c h) (v : ℕ) 
     moves = counts (tableAt c 2) (omega arith);
   }
 
-  hand-end : tableAt c 3 < length area → AtHand (set area (tableAt c 3) v) c (record { status = h .status; from = h .from; head = h .head; end = v; marks = h .marks; reductions = h .reductions; moves = h .moves })
+  hand-end : tableAt c 3 < length area → AtHand (set area (tableAt c 3) v) c
+      (record { status = h .status; from = h .from; head = h .head; end = v; marks = h .marks; reductions = h .reductions; moves = h .moves })
   hand-end l = record {
     status = kept (tableAt c 3) (tableAt c 0) (omega arith) (a .status);
     from = kept (tableAt c 3) (tableAt c 1) (omega arith) (a .from);
@@ -86,7 +91,8 @@ module _ {area : List ℕ} {c : ℕ} {h : Hand} (a : AtHand area c h) (v : ℕ) 
     moves = counts (tableAt c 3) (omega arith);
   }
 
-  hand-marks : tableAt c 4 < length area → AtHand (set area (tableAt c 4) v) c (record { status = h .status; from = h .from; head = h .head; end = h .end; marks = v; reductions = h .reductions; moves = h .moves })
+  hand-marks : tableAt c 4 < length area → AtHand (set area (tableAt c 4) v) c
+      (record { status = h .status; from = h .from; head = h .head; end = h .end; marks = v; reductions = h .reductions; moves = h .moves })
   hand-marks l = record {
     status = kept (tableAt c 4) (tableAt c 0) (omega arith) (a .status);
     from = kept (tableAt c 4) (tableAt c 1) (omega arith) (a .from);
@@ -97,7 +103,8 @@ module _ {area : List ℕ} {c : ℕ} {h : Hand} (a : AtHand area c h) (v : ℕ) 
     moves = counts (tableAt c 4) (omega arith);
   }
 
-  hand-reductions : 4 < length area → AtHand (set area 4 v) c (record { status = h .status; from = h .from; head = h .head; end = h .end; marks = h .marks; reductions = v; moves = h .moves })
+  hand-reductions : 4 < length area → AtHand (set area 4 v) c
+      (record { status = h .status; from = h .from; head = h .head; end = h .end; marks = h .marks; reductions = v; moves = h .moves })
   hand-reductions l = record {
     status = kept 4 (tableAt c 0) (omega arith) (a .status);
     from = kept 4 (tableAt c 1) (omega arith) (a .from);
@@ -146,7 +153,8 @@ module _ (area : List ℕ) (c : ℕ) (h : Hand) where
     hand-pushed = (
       rw (p .1 .head, p .1 .marks),
       hand-marks {area = set (set area (slotAt area (h .head) + 1) mark) (tableAt c 2) headed}
-          (hand-head {area = set area (slotAt area (h .head) + 1) mark} (hand-beyond (p .1) mark (slotAt area (h .head) + 1) (omega (arith, p .0 .chunk))) headed (simp length-set (omega (arith, p .0 .chunk, p .0 .slot))))
+          (hand-head {area = set area (slotAt area (h .head) + 1) mark}
+          (hand-beyond (p .1) mark (slotAt area (h .head) + 1) (omega (arith, p .0 .chunk))) headed (simp length-set (omega (arith, p .0 .chunk, p .0 .slot))))
           (h .marks + mark) (simp length-set (omega (arith, p .0 .chunk, p .0 .slot))),
     )
 

@@ -1,7 +1,6 @@
 pub mod Clearing
 pub mod Comparing
 pub mod Hands
-pub mod ParseSteps
 pub mod Ready
 pub mod Searches
 pub mod Walks

@@ -1,5 +1,5 @@
 -- A walk down a stack, block by block, to what it looks for: the topmost terminal, or the topmost mark.
--- Rests on ReadWords and StackWords.
+-- Rests on moving's ReadWords and StackWords.
 --
 -- Main definition: Down. Main statements: down-ends and down-under (what a turn asks), down-none (nothing is left); top-found, top-more;
 -- mark-found, mark-more; nonterminal-top, below-start, below-here, below-ends.
@@ -12,10 +12,10 @@ use lib.Dec.{leb}
 use borrow.Author.Tests.{le-leb, lt-leb}
 use Rattle.language.specs.Trees.{Span}
 use Rattle.machine.specs.Entries.{Entry, terminalOn, nonterminalOn, topTerminal, topIsNonterminal}
-use Rattle.area.specs.Layout.{stackSize, slotWord}
-use Rattle.reader.specs.declared.moves.Top.the-variants.{Terminal}
-use Rattle.reader.specs.ReadWords.{Holds, Stacked, startSlot, EndsBlock, topOf, belowMark, handleBelow, NonterminalOnTop, BelowMark}
-use Rattle.reader.specs.StackWords.{stacked, slot-start, slot-ends, slot-symbol, slot-mark, slot-under}
+use Rattle.layout.specs.Layout.{stackSize, slotWord}
+use Rattle.moving.specs.declared.Top.the-variants.{Terminal}
+use Rattle.moving.specs.ReadWords.{Holds, Stacked, startSlot, EndsBlock, topOf, belowMark, handleBelow, NonterminalOnTop, BelowMark}
+use Rattle.moving.specs.StackWords.{stacked, slot-start, slot-ends, slot-symbol, slot-mark, slot-under}
 
 -- slots that hold something end in a block
 pub held-ends : {area : List ℕ} {s e : ℕ} (stack : List (Entry Span)) → Holds area s e stack → s < e → EndsBlock area e

@@ -1,16 +1,16 @@
 -- Words put to 0 one after the other: where that has come to, and where it stands for the stores of a move.
--- Rests on MoveWords.
+-- Rests on moving's MoveWords.
 --
--- Main statements: zeroed-none (it begins), zeroed-next (one word more), zeroed-front; ended-zeroed, one-zeroed (the words of a last move and of a join).
+-- Main statements: zeroed-none (it begins), zeroed-next (one word more); ended-zeroed, one-zeroed (the words of a last move and of a join).
 use mathlib.Core.Path.{_≡_, refl, sym, ap, _∙_}
 use mathlib.Core.List.{List, _∷_, _++_, append-assoc}
 use Prim.Native.Nat.{ℕ, zero, suc, _+_, _*_, _-_, _<_, _≤_}
 use native.Mathlib.Omega.{arith}
 use lib.ListN.{length, getD, take, drop, set, length-set, length-append, length-take, length-replicate, take-append-drop}
 use lib.Seq.{drop-cons, set-at}
-use Rattle.area.specs.Layout.{zeros, tableAt}
-use Rattle.reader.specs.BlockWords.{zeros-snoc}
-use Rattle.reader.specs.MoveWords.{fromOf, headOf, endOf, slotAt, clearedWords, endedWords, unmarkWords, goneWords, oneWords, Acceptable, Joinable}
+use Rattle.layout.specs.Layout.{zeros, tableAt}
+use Rattle.moving.specs.BlockWords.{zeros-snoc}
+use Rattle.moving.specs.MoveWords.{fromOf, headOf, endOf, slotAt, clearedWords, endedWords, unmarkWords, goneWords, oneWords, Acceptable, Joinable}
 
 module _ (area : List ℕ) (i : ℕ) where
   pub zeroed-none : area ≡ clearedWords area i 0
@@ -41,11 +41,6 @@ module _ (area : List ℕ) (i : ℕ) where
 
   five : i + 5 ≤ length area → set (set (set (set (set area (i + 0) 0) (i + 1) 0) (i + 2) 0) (i + 3) 0) (i + 4) 0 ≡ clearedWords area i 5
   five h = ap (λ (l : List ℕ). set l (i + 4) 0) (four (omega arith)) ∙ zeroed-next 4 (omega arith)
-
--- from the first word on
-pub zeroed-front : (area : List ℕ) (k : ℕ) → clearedWords area 0 k ≡ zeros k ++ drop k area
-unfolding clearedWords
-zeroed-front area k = let e : 0 + k ≡ k = omega arith in ap (λ (j : ℕ). zeros k ++ drop j area) e
 
 -- the last move: four words of a slot
 pub ended-zeroed : (area : List ℕ) (c : ℕ) → Acceptable area c

@@ -1,28 +1,20 @@
 // The tests of a chunk; one move of it, by document 01's rules 1 to 6: the tests of the words in their order, which end in the move
 // that they call for, and that move made; and the moves of a run.
 use crate::moves;
-use crate::moves::Hand;
-use crate::moves::Matched;
-use crate::moves::Top;
+use moving::Hand;
+use moving::Matched;
+use moving::Move;
+use moving::Top;
 ghost use mathlib.Core.Path.{_≡_};
 ghost use Prim.Native.Nat.{_+_, _*_, _≤_, _<_};
 ghost use lib.Dec.{eqb};
 ghost use lib.ListN.{length, getD};
 ghost use Rattle.language.specs.Words.{countR, entry, word};
-ghost use Rattle.area.specs.Layout.{slotsAt};
-ghost use Rattle.reader.specs.OneMove.{Movable};
-ghost use Rattle.reader.specs.RunMoves.{Runnable, RanWords};
-ghost use Rattle.reader.specs.Moved.{Moved, uncounted, Possible, CallsFor, Facing, Takes, HasLeft, liveIn, restsBy, restsIn};
-ghost use Rattle.reader.specs.AtHand.{AtHand};
-
-// The move that a chunk's words call for: its next symbol put on its stack with this mark (0 or 1); stuck with 17 to 20; the # of the end
-// read; the handle from this slot up replaced by this left side of this rule.
-pub enum Move {
-    Push(u16),
-    Stick(u16),
-    Accept,
-    Reduce(u16, u16, u16),
-}
+ghost use Rattle.layout.specs.Layout.{slotsAt};
+ghost use Rattle.moving.specs.OneMove.{Movable};
+ghost use Rattle.moving.specs.RunMoves.{Runnable, RanWords};
+ghost use Rattle.moving.specs.Moved.{Moved, uncounted, Possible, CallsFor, Facing, Takes, HasLeft, liveIn, restsBy, restsIn};
+ghost use Rattle.moving.specs.AtHand.{AtHand};
 
 // Whether number c is live.
 pub fn is_live(area: &[u16], c: usize) -> bool

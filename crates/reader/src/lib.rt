@@ -1,17 +1,15 @@
-// The calls that move a row: step, run, join and the one-call parse. Their meanings stand in specs/.
+// The calls that move a row: step, run, join, and an uncut row read through. Their meanings stand in crate `moving`, in its specs Calls and ReadCall.
 mod calls;
 mod moves;
-mod parsing;
 
-use crate::moves::Next;
+use moving::Next;
 use refusals::Answer;
 use refusals::Refusal;
-use refusals::ReportAnswer;
 use refusals::RunAnswer;
 ghost use mathlib.Core.Path.{_≡_};
 ghost use lib.ListN.{length};
-ghost use Rattle.reader.specs.Calls.{stepAnswer, stepArea, runAnswer, runArea, joinAnswer, joinArea};
-ghost use Rattle.reader.specs.ParseCall.{parseAnswer, parseArea, parseOut};
+ghost use Rattle.moving.specs.Calls.{stepAnswer, stepArea, runAnswer, runArea, joinAnswer, joinArea};
+ghost use Rattle.moving.specs.ReadCall.{readAnswer, readArea};
 
 // One move of a chunk, a run of one: checks 15, 12 and 13. Where it refuses, the area is untouched.
 pub fn step(words: &[u16], matrix: &[u8], area: &mut [u16], chunk: usize) -> Answer
@@ -62,16 +60,16 @@ pub fn join(words: &[u16], matrix: &[u8], area: &mut [u16], chunk: usize) -> Ans
     Answer::Refused(Refusal::NoJoin)
 }
 
-// The front-to-back parse in one call: checks 1 to 9, 11 for the work area, 17 to 20, and 11 for the report. From 11 for the work area on, the
-// words that it needs there are zero when it ends; words beyond them, and on a refusal the report run, are untouched.
-pub fn parse(words: &[u16], tokens: &[u16], area: &mut [u16], out: &mut [u16]) -> ReportAnswer
-    ensures answers { λ r. ⌜ r ≡ parseAnswer (now (words .entry)) (now (tokens .entry)) (length (now (area .entry))) (length (now (out .entry))) ⌝ }
-    ensures clears { λ _. ⌜ now (area .exit) ≡ parseArea (now (words .entry)) (now (tokens .entry)) (now (area .entry)) ⌝ }
-    ensures writes { λ _. ⌜ now (out .exit) ≡ parseOut (now (words .entry)) (now (tokens .entry)) (length (now (area .entry))) (now (out .entry)) ⌝ }
+// An uncut row started and read to rest: start's checks 15, 7, 8, 9 and 11 (it has no cuts, so never 10), and then the moves of chunk 0 until it
+// rests. The words that start has written are not checked again. Where it refuses, the area is untouched.
+pub fn read_through(words: &[u16], matrix: &[u8], tokens: &[u16], area: &mut [u16]) -> Answer
+    ensures answers { λ r. ⌜ r ≡ readAnswer (now (words .entry)) (now (matrix .entry)) (now (tokens .entry)) (length (now (area .entry))) ⌝ }
+    ensures leaves { λ _. ⌜ now (area .exit) ≡ readArea (now (words .entry)) (now (matrix .entry)) (now (tokens .entry)) (now (area .entry)) ⌝ }
 {
-    let mut matrix = [0u8; 4096];
-    if let Answer::Refused(refusal) = table::load(words, &mut matrix) {
-        return ReportAnswer::Refused(refusal);
+    let answer = start::start(words, matrix, tokens, &tokens[0..0], area);
+    if let Answer::Done = answer {
+        let n = tokens.len();
+        calls::make_moves(words, matrix, area, 0, 2 * (n as u32) + 2);
     }
-    parsing::parse_loaded(words, &matrix, tokens, area, out)
+    answer
 }

@@ -1,17 +1,21 @@
 // The moves of a chunk and the join of two, on the words of a lent work area; and what a move reads of these words.
-// Each function that writes leaves exactly the words that a definition of specs/MoveWords.antt names. No symbol moves.
+// Each function that writes leaves exactly the words that a definition of moving/specs/MoveWords.antt names. No symbol moves.
 // What a run needs again at each move goes by value from move to move beside the area (`Hand`), which holds the same.
+use moving::Hand;
+use moving::Matched;
+use moving::Next;
+use moving::Top;
 ghost use mathlib.Core.Path.{_≡_};
 ghost use Prim.Native.Nat.{_+_, _*_, _-_, _≤_, _<_};
 ghost use lib.ListN.{length, getD};
-ghost use Rattle.area.specs.Layout.{slotsAt, slotWord, tableAt, rowWord, movesIn};
-ghost use Rattle.reader.specs.MoveWords.{tickWords, putWords, endedWords, unmarkWords, joinWords};
-ghost use Rattle.reader.specs.MoveWords.{clearedWords, overWords, notedWords, madeWords};
-ghost use Rattle.reader.specs.MoveWords.{Ticks, Pushable, Acceptable, Joinable, Laid, Roomy, Reducible};
-ghost use Rattle.reader.specs.MoveWords.{slotAt};
-ghost use Rattle.reader.specs.AtHand.{AtHand};
-ghost use Rattle.reader.specs.ReadWords.{Stacked, EndsBlock, startSlot, TopIs, NonterminalOnTop, EndAndAxiom, HandleStarts, nextOf, liveAfter};
-ghost use Rattle.reader.specs.MatchWords.{Readable, Whole, handleWords, matchWords, matchedOf};
+ghost use Rattle.layout.specs.Layout.{slotsAt, slotWord, tableAt, rowWord, movesIn};
+ghost use Rattle.moving.specs.MoveWords.{tickWords, putWords, endedWords, unmarkWords, joinWords};
+ghost use Rattle.moving.specs.MoveWords.{clearedWords, overWords, notedWords, madeWords};
+ghost use Rattle.moving.specs.MoveWords.{Ticks, Pushable, Acceptable, Joinable, Laid, Roomy, Reducible};
+ghost use Rattle.moving.specs.MoveWords.{slotAt};
+ghost use Rattle.moving.specs.AtHand.{AtHand};
+ghost use Rattle.moving.specs.ReadWords.{Stacked, EndsBlock, startSlot, TopIs, NonterminalOnTop, EndAndAxiom, HandleStarts, nextOf, liveAfter};
+ghost use Rattle.moving.specs.MatchWords.{Readable, Whole, handleWords, matchWords, matchedOf};
 ghost use Rattle.language.specs.Words.{countR, entry, bodyEnd};
 
 // The word where slot s starts.
@@ -46,17 +50,6 @@ fn moves_of(area: &[u16]) -> u32
     (area[2] as u32) + 65536 * (area[3] as u32)
 }
 
-// What a run has at hand of its chunk: the chunk's row of the table, and the counts of reductions and of moves. The area holds the same.
-pub struct Hand {
-    pub status: u16,
-    pub from: u16,
-    pub head: u16,
-    pub end: u16,
-    pub marks: u16,
-    pub reductions: u16,
-    pub moves: u32,
-}
-
 // What the area holds of chunk c.
 pub fn hand_of(area: &[u16], c: usize) -> Hand
     requires { ⌜ (c < getD (now area) 1 0) × (slotsAt (now area) ≤ length (now area)) ⌝ }
@@ -67,8 +60,8 @@ pub fn hand_of(area: &[u16], c: usize) -> Hand
         from: row_word(area, c, 1),
         head: row_word(area, c, 2),
         end: row_word(area, c, 3),
-        marks: row_word(area, c, 4),
-        reductions: area[4],
+        marks: row_word(area, c, 4) as u32,
+        reductions: area[4] as u32,
         moves: moves_of(area),
     }
 }
@@ -93,10 +86,10 @@ pub fn push(area: &mut [u16], c: usize, mut hand: Hand, mark: u16) -> Hand
     let head = hand.head;
     let slot = slot_at(area, head as usize);
     hand.head = head + area[slot + 2];
-    hand.marks += mark;
+    hand.marks += mark as u32;
     area[slot + 1] = mark;
     area[line + 2] = hand.head;
-    area[line + 4] = hand.marks;
+    area[line + 4] = hand.marks as u16;
     hand
 }
 
@@ -172,7 +165,7 @@ fn clear(area: &mut [u16], from: usize, to: usize)
 }
 
 // Adds a reduction to the `made` until now: rule, first place, place after the last.
-fn note(area: &mut [u16], made: u16, rule: u16, first: u16, after: u16)
+fn note(area: &mut [u16], made: u32, rule: u16, first: u16, after: u16)
     requires { ⌜ Roomy (now area) × (made ≡ getD (now area) 4 0) ⌝ }
     ensures { λ _. ⌜ now (area .exit) ≡ notedWords (now (area .entry)) rule first after ⌝ }
 {
@@ -181,7 +174,7 @@ fn note(area: &mut [u16], made: u16, rule: u16, first: u16, after: u16)
     area[at] = rule;
     area[at + 1] = first;
     area[at + 2] = after;
-    area[4] = made + 1;
+    area[4] = (made + 1) as u16;
 }
 
 // Lays one unmarked symbol over the slots from `from` up to `head`, the symbols there cleared.
@@ -209,21 +202,9 @@ pub fn reduce(area: &mut [u16], c: usize, mut hand: Hand, from: u16, symbol: u16
     hand.marks -= 1;
     hand.reductions = made + 1;
     lay(area, from, head, symbol);
-    area[5 + 5 * c + 4] = hand.marks;
+    area[5 + 5 * c + 4] = hand.marks as u16;
     note(area, made, rule, from - 1, head - 1);
     hand
-}
-
-// The topmost terminal of a stack, or that it has none.
-pub enum Top {
-    Terminal(u16),
-    NoTerminal,
-}
-
-// The next live chunk, or that there is none.
-pub enum Next {
-    Chunk(usize),
-    NoChunk,
 }
 
 // The slot where the block that ends before slot `end` starts.
@@ -314,12 +295,6 @@ pub fn next_live(area: &[u16], c: usize) -> Next
         d += 1;
     }
     Next::NoChunk
-}
-
-// The rule of a handle, or that there is none.
-pub enum Matched {
-    Rule(u16),
-    NoRule,
 }
 
 // The word place at which rule r's body starts.

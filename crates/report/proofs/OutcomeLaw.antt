@@ -1,27 +1,20 @@
 -- What the steps of the module `outcome` find and write.
 -- Main statements: none-step, none-end; report-written.
-use mathlib.Core.Path.{_≡_, refl, sym, ap, ap₂, _∙_}
-use mathlib.Core.Bool.{Bool, true, false}
+use mathlib.Core.Path.{_≡_, ap, ap₂, _∙_}
+use mathlib.Core.Bool.{true, false}
 use mathlib.Core.List.{List, _++_}
 use Prim.Native.Nat.{ℕ, suc, _+_, _*_, _-_, _≤_, _<_}
 use native.Mathlib.Omega.{arith}
-use lib.Dec.{eqb, ltb}
+use lib.Dec.{eqb}
 use lib.ListN.{length, getD, take, drop}
-use lib.Seq.{take-take, drop-at}
+use lib.Seq.{drop-at}
 use Rattle.laws.specs.Picks.{pick}
-use Rattle.laws.specs.Tests.{lt-ltb, le-ltb, le-leb, lt-leb}
-use Rattle.refusals.specs.declared.Refusal.{Refusal}
-use Rattle.refusals.specs.declared.Refusal.the-variants.{Unfinished, NoRoom}
-use Rattle.refusals.specs.declared.ReportAnswer.{ReportAnswer}
-use Rattle.refusals.specs.declared.ReportAnswer.the-variants.{Report, Refused}
 use Rattle.language.specs.Trees.{Span, Reduction}
 use Rattle.language.specs.Reports.{putInOrder, reportWords}
-use Rattle.machine.specs.States.{Outcome, refusedRow, reported}
-use Rattle.machine.specs.Answers.{outcomeAnswer, outcomeOut}
-use Rattle.area.specs.Layout.{madeAtWord, readMade}
-use Rattle.area.specs.Lengths.{length-report}
-use Rattle.outcomes.specs.EntryWords.{entries, entries-words, entries-length}
-use Rattle.outcomes.specs.OutcomeWords.{noneLive, stuckRefusal, wordsReport, wordsOutcome}
+use Rattle.layout.specs.Layout.{readMade}
+use Rattle.layout.specs.Lengths.{length-report}
+use Rattle.outcomes.specs.EntryWords.{entries, entries-part, entries-length}
+use Rattle.outcomes.specs.OutcomeWords.{noneLive}
 use Rattle.report.proofs.SortLaw.{front-is}
 
 -- a row of the table more
@@ -40,9 +33,7 @@ pub report-written : (area out : List ℕ) (made count : ℕ) {copied last : Lis
 report-written area out made count {copied} h c e =
     let l : List (Reduction Span) = readMade count area made in
     let n : length l ≡ count = entries-length count area made in
-    let w : take (3 * count) (take (length area - made) (drop made area)) ≡ reportWords l =
-    take-take (3 * count) (length area - made) (drop made area) (omega arith) ∙ sym (entries-words count area made h) in
-    let k : copied ≡ reportWords l ++ drop (3 * count) out = c ∙ ap (λ p. p ++ drop (3 * count) out) w in
+    let k : copied ≡ reportWords l ++ drop (3 * count) out = c ∙ ap (λ p. p ++ drop (3 * count) out) (entries-part count area made h) in
     let i : entries copied 0 count ≡ l = ap (λ ws. entries ws 0 count) k ∙ front-is l (drop (3 * count) out) count n in
     let d : drop (3 * count) copied ≡ drop (3 * count) out =
     ap (drop (3 * count)) k ∙ drop-at (reportWords l) (drop (3 * count) out) (3 * count) (length-report l ∙ ap (λ m. 3 * m) n) in

@@ -8,11 +8,9 @@ use lib.ListN.{length, getD}
 use Rattle.refusals.specs.declared.Refusal.the-variants.{BadState}
 use Rattle.refusals.specs.declared.ReportAnswer.{ReportAnswer}
 use Rattle.refusals.specs.declared.ReportAnswer.the-variants.{Refused}
-use Rattle.machine.specs.States.{refusedRow, outcome}
-use Rattle.area.specs.Layout.{decode}
 use Rattle.area.specs.Shape.{inShape}
 use Rattle.shape.specs.InShape.{in-shape-holds}
-use Rattle.report.specs.ReportCall.{reportOutcome, reportAnswer, reportOut}
+use Rattle.report.specs.ReportCall.{reportOutcome, reportAnswer, reportOut, report-broken, report-in-shape}
 use Rattle.outcomes.specs.OutcomeWords.{wordsOutcome, Reportable, outcome-words, reportable}
 use Rattle.outcomes.specs.OutcomeTests.{Answered, refuses}
 
@@ -24,24 +22,16 @@ module _ (words matrix area : List ℕ) where
   abbrev Reported : List ℕ → ReportAnswer → List ℕ → Type 0
   Reported out answer last = (answer ≡ reportAnswer words matrix area (length out)) × (last ≡ reportOut words matrix area out)
 
-  bad-state : inShape words matrix area ≡ false → reportOutcome words matrix area ≡ refusedRow BadState
-  unfolding reportOutcome
-  bad-state e = rw (e, reportOutcome)
-
-  good-state : inShape words matrix area ≡ true → reportOutcome words matrix area ≡ outcome (decode area)
-  unfolding reportOutcome
-  good-state e = rw (e, reportOutcome)
-
   pub refused-state : {b : Bool} (out : List ℕ) → InShape b → b ≡ false → Reported out (Refused BadState) out
   unfolding reportAnswer reportOut
-  refused-state out i e = refuses out (bad-state (sym i ∙ e))
+  refused-state out i e = refuses out (report-broken words matrix area (sym i ∙ e))
 
   module _ (low : getD area 2 0 < 65536) {b : Bool} (i : InShape b) (e : b ≡ true) where
     pub ready : Reportable area
     ready = reportable area (in-shape-holds words matrix area low (sym i ∙ e))
 
     read-off : wordsOutcome area ≡ reportOutcome words matrix area
-    read-off = sym (good-state (sym i ∙ e) ∙ outcome-words area (in-shape-holds words matrix area low (sym i ∙ e)))
+    read-off = sym (report-in-shape words matrix area (sym i ∙ e) ∙ outcome-words area (in-shape-holds words matrix area low (sym i ∙ e)))
 
     pub reported-state : (out : List ℕ) {answer : ReportAnswer} {last : List ℕ} → Answered (wordsOutcome area) out answer last → Reported out answer last
     unfolding reportAnswer reportOut

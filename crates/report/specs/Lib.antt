@@ -1,2 +1,3 @@
+pub mod EntryTests
 pub mod Merging
 pub mod ReportCall

@@ -8,8 +8,8 @@ ghost use Prim.Native.Nat.{_+_, _*_, _-_, _≤_};
 ghost use lib.ListN.{length, getD, drop};
 ghost use Rattle.language.specs.Reports.{putInOrder, reportWords};
 ghost use Rattle.machine.specs.Answers.{outcomeAnswer, outcomeOut};
-ghost use Rattle.area.specs.Layout.{madeAtWord, readMade};
-ghost use Rattle.outcomes.specs.OutcomeWords.{noneLive, stuckRefusal, wordsReport, wordsOutcome, Reportable};
+ghost use Rattle.layout.specs.Layout.{madeAtWord, readMade};
+ghost use Rattle.outcomes.specs.OutcomeWords.{noneLive, wordsReport, wordsOutcome, Reportable};
 
 // Of so many chunks none but chunk 0 is live.
 fn alone(area: &[u16], count: usize) -> bool
@@ -26,22 +26,6 @@ fn alone(area: &[u16], count: usize) -> bool
         chunk += 1;
     }
     true
-}
-
-// The refusal of a row stuck with this status at this place.
-fn refusal_of(status: u16, place: u32) -> Refusal
-    ensures { λ r. ⌜ r ≡ stuckRefusal status place ⌝ }
-{
-    if status == 17 {
-        return Refusal::NoRelation(place);
-    }
-    if status == 18 {
-        return Refusal::NoRule(place);
-    }
-    if status == 19 {
-        return Refusal::NotAxiom(place);
-    }
-    Refusal::SideBySide(place)
 }
 
 // The count of moves, which stands in two words.
@@ -89,7 +73,7 @@ pub fn outcome(area: &[u16], out: &mut [u16]) -> ReportAnswer
     let status = area[5];
     let head = area[7];
     if 17 <= status {
-        return ReportAnswer::Refused(refusal_of(status, (head - 1) as u32));
+        return ReportAnswer::Refused(refusals::stuck_refusal(status, (head - 1) as u32));
     }
     if head < area[8] {
         return ReportAnswer::Refused(Refusal::Unfinished);

@@ -1,7 +1,7 @@
 -- The order of calls in which `rows` reads a row, and what the row then gives.
 -- Document 01, "Sample rows": "It moves chunk 0 until at rest, then 1, and so on, then joins chunk 0 rightwards, moving it to rest after
 -- each join."
--- Rests on the calls' definitions: language's Loads, area's Start, reader's Calls, report's ReportCall.
+-- Rests on the calls' definitions: language's Loads, start's Start, moving's Calls, report's ReportCall.
 --
 -- Main definitions: restArea, eachToRest, joinRightwards, rowArea, rowAnswer, rowEntries.
 -- Main statements: each-more, joins-more (one turn of each loop); row-not-loaded, row-not-started,
@@ -23,9 +23,9 @@ use Rattle.refusals.specs.declared.ReportAnswer.the-variants.{Report, Refused}
 use Rattle.language.specs.Loads.{loadAnswer, loadBytes}
 use Rattle.machine.specs.States.{Outcome, refusedRow, reported}
 use Rattle.machine.specs.Answers.{outcomeAnswer}
-use Rattle.area.specs.Start.{startAnswer, startArea}
-use Rattle.reader.specs.Calls.{runArea, joinArea}
-use Rattle.text.specs.AnswerLines.{endAfter, end-within}
+use Rattle.start.specs.Start.{startAnswer, startArea}
+use Rattle.moving.specs.Calls.{runArea, joinArea}
+use Rattle.lines.specs.AnswerLines.{endAfter, end-within}
 use Rattle.report.specs.ReportCall.{reportOutcome, reportAnswer, reportOut}
 
 -- ---- the schedule, on the area's words

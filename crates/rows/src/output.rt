@@ -2,7 +2,6 @@
 use libc::STDOUT_FILENO;
 use refusals::Refusal;
 use refusals::ReportAnswer;
-use text::writing;
 ghost use Prim.Native.Nat.{_*_, _≤_};
 ghost use lib.ListN.{length};
 ghost use Rattle.rows.specs.Schedule.{Fits};
@@ -10,13 +9,13 @@ ghost use Rattle.rows.specs.Schedule.{Fits};
 // `text L`.
 pub(crate) fn write_text(line: u32) {
     let mut out = [0u8; 16];
-    let end = writing::put_text(&mut out, 0, line);
+    let end = lines::put_text(&mut out, 0, line);
     io::write_all(STDOUT_FILENO, &out[..end]);
 }
 
 // `refused number value`.
 fn write_refused(out: &mut [u8], refusal: Refusal) {
-    let end = writing::put_refused(out, 0, refusals::number(refusal), refusals::value(refusal));
+    let end = lines::put_refused(out, 0, refusals::number(refusal), refusals::value(refusal));
     io::write_all(STDOUT_FILENO, &out[..end]);
 }
 
@@ -31,7 +30,7 @@ fn put_entries(out: &mut [u8], at: usize, entries: &[u16], count: usize) -> usiz
         let rule = entries[3 * i] as u32;
         let first = entries[3 * i + 1] as u32;
         let after = entries[3 * i + 2] as u32;
-        end = writing::put_entry(out, end, rule, first, after);
+        end = lines::put_entry(out, end, rule, first, after);
         i += 1;
     }
     end
@@ -41,7 +40,7 @@ fn put_entries(out: &mut [u8], at: usize, entries: &[u16], count: usize) -> usiz
 fn write_report(out: &mut [u8], tokens: u32, chunks: u32, moves: u32, entries: &[u16], count: usize)
     requires { ⌜ 3 * count ≤ length (now entries) ⌝ }
 {
-    let first = writing::put_parse(out, 0, tokens, chunks, moves);
+    let first = lines::put_parse(out, 0, tokens, chunks, moves);
     let end = put_entries(out, first, entries, count);
     io::write_all(STDOUT_FILENO, &out[..end]);
 }

@@ -52,7 +52,7 @@ pub(crate) fn read_row(
     if let Answer::Refused(refusal) = table::load(words, matrix) {
         return ReportAnswer::Refused(refusal);
     }
-    if let Answer::Refused(refusal) = area::start(words, matrix, tokens, cuts, area) {
+    if let Answer::Refused(refusal) = start::start(words, matrix, tokens, cuts, area) {
         return ReportAnswer::Refused(refusal);
     }
     let chunks = cuts.len() + 1;

@@ -1,7 +1,7 @@
 -- A work area, computed from the definitions: grammar K's row 1 2 3 1 2 1 4 5 cut at 4, as it starts, after two moves of chunk 0, and
 -- finished. These are the words that docs/AREA.md shows.
 -- Document 01, "Sample rows": "With K, 1 2 3 1 2 1 4 5 and 4".
--- Rests on area's Layout and Shape, and on machine's Samples.
+-- Rests on layout's Layout and area's Shape, and on machine's Samples.
 --
 -- Main statements: started, two-moves, finished (one equation an area); each is in shape.
 use mathlib.Core.Path.{_≡_, refl}
@@ -12,7 +12,7 @@ use lib.ListN.{length, drop}
 use Rattle.language.specs.Trees.{Span}
 use Rattle.machine.specs.States.{State, refusedRun, ran, run, start}
 use Rattle.machine.specs.Samples.{tableOfK, joinedOn}
-use Rattle.area.specs.Layout.{need, block, zeros, encode, decode}
+use Rattle.layout.specs.Layout.{need, block, zeros, encode, decode}
 use Rattle.area.specs.Shape.{areaInShape, walkOf, lineOf, side, scanSlot}
 
 abbrev atStart : State Span

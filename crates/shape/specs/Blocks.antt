@@ -2,7 +2,7 @@
 -- rules of a state ask; and what the scan makes of such a block.
 -- Document 01, 15 BAD STATE; docs/AREA.md, rule (f).
 -- t, N: how many terminals and nonterminals the grammar has; n: how many tokens the row has.
--- Rests on area's Layout, Kept and Shape.
+-- Rests on layout's Layout, Kept and area's Shape.
 --
 -- Main definitions: lastSlots (a block's words after its first slot), EntryStands, passedOver.
 -- Main statements: block-slots, stands-to-tests, tests-to-stands, scan-block (every such block is passed), slot-view (which slots a
@@ -24,9 +24,9 @@ use Rattle.language.specs.Trees.{Span}
 use Rattle.machine.specs.Entries.{Unread, terminalAt, Entry, terminalOn, nonterminalOn, symbol, unmarked}
 use Rattle.results.specs.RunsEnd.{MarksFine, fine-empty, fine-nonterminal, fine-unmarked, fine-marked}
 use Rattle.area.specs.declared.shape.Scan.{Scan}
-use Rattle.area.specs.Layout.{more, size, block, markWord, spanAt, unreadOf}
-use Rattle.area.specs.Kept.{Lies, first-end, last-end, within, SymbolInRange}
-use Rattle.area.specs.Lengths.{end-size}
+use Rattle.layout.specs.Layout.{more, size, block, markWord, spanAt, unreadOf}
+use Rattle.layout.specs.Kept.{Lies, first-end, last-end, within, SymbolInRange}
+use Rattle.layout.specs.Lengths.{end-size}
 use Rattle.area.specs.Shape.{symbolFits, placeFits, tag, oneIfTerminal, broken, opened, inner, scanSlot, scanned}
 
 -- ---- a block, slot by slot

@@ -17,9 +17,9 @@ use Rattle.machine.specs.Chunks.{Chunk}
 use Rattle.machine.specs.States.{State, live}
 use Rattle.machine.specs.Starts.{symbolsAlong}
 use Rattle.results.specs.Bounded.{AllFine, all-fine-nil, all-fine-cons}
-use Rattle.area.specs.Layout.{stackSize, unreadSize, chunkSize, total}
-use Rattle.area.specs.Kept.{Tiles, tiled, AllInRange, none-left, LastHolds, holds, later-holds, Ending, whole, accepted, AllStuckFine, no-chunk, and-chunk, Kept}
-use Rattle.area.specs.Lengths.{tiles-end, stack-size, symbols-size, unread-append}
+use Rattle.layout.specs.Layout.{stackSize, unreadSize, chunkSize, total}
+use Rattle.layout.specs.Kept.{Tiles, tiled, AllInRange, none-left, LastHolds, holds, later-holds, Ending, whole, accepted, AllStuckFine, no-chunk, and-chunk, Kept}
+use Rattle.layout.specs.Lengths.{tiles-end, stack-size, symbols-size, unread-append}
 use Rattle.shape.specs.Tiling.{tiles-split, tiles-join, ranged-split, ranged-join}
 use Rattle.shape.specs.Sides.{placed-at}
 use Rattle.shape.specs.Rising.{rising-stack, plain, plain-unread, fine-reverse, placed-of, tiles-of, ranged-of, fine-of}

@@ -24,10 +24,10 @@ use Rattle.machine.specs.Entries.{Unread, terminalAt, nonterminalAt, Entry, ter
 use Rattle.machine.specs.Moves.{noRelation, noRule, notAxiom, sideBySide}
 use Rattle.machine.specs.Chunks.{Status, running, stuck, Chunk}
 use Rattle.machine.specs.States.{State}
-use Rattle.area.specs.Layout.{need, size, block, markWord, stackSize, stackWords, unreadWords, chunkSize, chunkWords, statusWord, row, rows, slots, encode, rowWord, slotsAt}
-use Rattle.area.specs.Layout.{slotWord, madeAtWord, spanAt, unreadOf, stackEntryOf, unreadAt, stackEntryAt, readUnread, readStack, statusOf, chunkOf, readMade, decode}
-use Rattle.area.specs.Kept.{Lies, first-end, last-end, within, SymbolInRange, Kept}
-use Rattle.area.specs.Lengths.{length-row, length-stack, length-chunk, length-block, within-slots, encode-length}
+use Rattle.layout.specs.Layout.{need, size, block, markWord, stackSize, stackWords, unreadWords, chunkSize, chunkWords, statusWord, row, rows, slots, encode, rowWord, slotsAt}
+use Rattle.layout.specs.Layout.{slotWord, madeAtWord, spanAt, unreadOf, stackEntryOf, unreadAt, stackEntryAt, readUnread, readStack, statusOf, chunkOf, readMade, decode}
+use Rattle.layout.specs.Kept.{Lies, first-end, last-end, within, SymbolInRange, Kept}
+use Rattle.layout.specs.Lengths.{length-row, length-stack, length-chunk, length-block, within-slots, encode-length}
 use Rattle.shape.specs.Blocks.{EntryStands, word}
 use Rattle.shape.specs.Sides.{risingWords, Placed, no-more, then-stands, placed-end}
 use Rattle.shape.specs.Rising.{rising-stack, plain-unread}

@@ -1,6 +1,6 @@
 -- Where each part of a state's words stands in an area that begins with them and goes on with any others.
 -- docs/AREA.md, the layout: front, table, slots, reductions.
--- Rests on area's Layout and Lengths.
+-- Rests on layout's Layout and Lengths.
 --
 -- Main definitions: slotsFrom, area. Main statements: slots-past; area-is; tokens-at, chunks-at, moves-at, count-at (the front); table-at,
 -- slots-at, unused-slots-at, made-at, unused-made-at, rest-at.
@@ -14,8 +14,8 @@ use Rattle.laws.specs.Parts.{drop-past}
 use Rattle.language.specs.Trees.{Span}
 use Rattle.language.specs.Reports.{reportWords}
 use Rattle.machine.specs.States.{State}
-use Rattle.area.specs.Layout.{need, front, rows, slots, total, zeros, encode, slotsAt, madeAtWord, movesIn}
-use Rattle.area.specs.Lengths.{length-rows, length-slots, length-report, parts-length}
+use Rattle.layout.specs.Layout.{need, front, rows, slots, total, zeros, encode, slotsAt, madeAtWord, movesIn}
+use Rattle.layout.specs.Lengths.{length-rows, length-slots, length-report, parts-length}
 
 -- the words from slot s on
 abbrev pub slotsFrom : List ℕ → ℕ → List ℕ

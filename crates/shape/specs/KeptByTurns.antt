@@ -2,7 +2,7 @@
 -- what a run leaves.
 -- Document 01: 15 is never given "for a state reached from such a load and start with those same words and matrix". It asks of the
 -- words that they pass 1 to 3, and of the matrix what it says of #; nothing here asks for an accepted load.
--- Rests on RowAfterTurn and RulesAfterTurn, and on area's Kept, and on machine's Schedules, AllowedExactly and Counts and results' Bounded.
+-- Rests on RowAfterTurn and RulesAfterTurn, and on layout's Kept, and on machine's Schedules, AllowedExactly and Counts and results' Bounded.
 --
 -- Main statements: kept-turned, kept-made, kept-run, kept-scheduled.
 use mathlib.Core.Path.{_≡_, ap}
@@ -21,8 +21,8 @@ use Rattle.results.specs.Bounded.{Falls, falls-kept, moves-bounded}
 use Rattle.machine.specs.Schedules.{Turned, by-step, Schedule, no-turn, one-turn, listed}
 use Rattle.machine.specs.AllowedExactly.{step-exactly}
 use Rattle.machine.specs.Counts.{NamedMoves, no-move, move-and, run-exactly}
-use Rattle.area.specs.Shape.{ruleA}
-use Rattle.area.specs.Kept.{Kept}
+use Rattle.matrix.specs.GrammarShape.{ruleA}
+use Rattle.layout.specs.Kept.{Kept}
 use Rattle.shape.specs.RowAfterTurn.{row-then}
 use Rattle.shape.specs.RulesAfterTurn.{same-number, first-of, zero-live, first-stack, holds-kept, whole-before, stands, ranged-kept, stuck-kept, terminals-fall}
 

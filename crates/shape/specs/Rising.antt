@@ -1,7 +1,7 @@
 -- A chunk's two sides as entries from the bottom up: a stack turned round, unread symbols as entries unmarked; their words and counts;
 -- and what it means in the rules of a state that such entries stand side by side.
 -- Document 01, "Moves of a chunk"; docs/AREA.md, rule (f).
--- Rests on Sides, and on area's Kept.
+-- Rests on Sides, and on layout's Kept.
 --
 -- Main definitions: plain. Main statements: rising-stack, plain-unread, plain-of, placed-of, tiles-of, ranged-of, fine-of.
 use mathlib.Core.Path.{_≡_, refl, sym, ap, _∙_}
@@ -13,8 +13,8 @@ use lib.ListN.{length, length-reverse}
 use Rattle.language.specs.Trees.{Span}
 use Rattle.machine.specs.Entries.{Unread, terminalAt, nonterminalAt, Entry, terminalOn, nonterminalOn, unmarked, stackSymbols}
 use Rattle.results.specs.RunsEnd.{terminalsOn, terminalsUnread, MarksFine, fine-empty, fine-nonterminal, fine-unmarked, fine-marked}
-use Rattle.area.specs.Layout.{size, block, markWord, stackSize, stackWords, marks, unreadSize, unreadWords}
-use Rattle.area.specs.Kept.{Tiles, tiled, tile, AllInRange, none-left, in-range}
+use Rattle.layout.specs.Layout.{size, block, markWord, stackSize, stackWords, marks, unreadSize, unreadWords}
+use Rattle.layout.specs.Kept.{Tiles, tiled, tile, AllInRange, none-left, in-range}
 use Rattle.shape.specs.Sides.{risingWords, Placed, no-more, then-stands}
 
 -- ---- a stack, bottom first

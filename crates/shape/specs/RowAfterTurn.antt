@@ -1,7 +1,7 @@
 -- What a step or a join does to the symbols of a row, from its first slot to its last, stacks and unread alike: nothing; or one
 -- nonterminal stands where a handle stood, and some symbol after it; or the # of the end is read and gone.
 -- Document 01, "Moves of a chunk", rules 1 to 6 and "Joining chunk c ..".
--- Rests on area's Kept, RowCounts and WordsOfShape, and on machine's Schedules, AllowedExactly and TableOf and results' RunsEnd.
+-- Rests on layout's Kept, RowCounts and matrix's WordsOfShape, and on machine's Schedules, AllowedExactly and TableOf and results' RunsEnd.
 --
 -- Main definitions: RowThen, FirstNotEnd. Main statements: row-then, handle-first.
 use mathlib.Core.Path.{_≡_, refl, sym, ap, _∙_}
@@ -27,10 +27,10 @@ use Rattle.results.specs.Bounded.{AllFine, all-fine-cons}
 use Rattle.machine.specs.Allowed.{runs, HandleAbove, from-nonterminal, from-mark, up-to-unmarked, up-to-nonterminal, EndAndAxiom, end-and-axiom}
 use Rattle.machine.specs.AllowedExactly.{handle-symbols, HandleView, a-handle, handle-view, whole-from}
 use Rattle.machine.specs.Schedules.{firstStack, has-read, has-replaced, got-stuck, Changed, moves-one, joins-two, further}
-use Rattle.area.specs.Shape.{ruleA}
-use Rattle.area.specs.Kept.{LastHolds, holds, later-holds}
-use Rattle.area.specs.RowCounts.{length-of-row, holds-some, no-symbol}
-use Rattle.area.specs.WordsOfShape.{left-sides-fit}
+use Rattle.matrix.specs.GrammarShape.{ruleA}
+use Rattle.layout.specs.Kept.{LastHolds, holds, later-holds}
+use Rattle.layout.specs.RowCounts.{length-of-row, holds-some, no-symbol}
+use Rattle.matrix.specs.WordsOfShape.{left-sides-fit}
 
 -- one chunk, which has nothing to read
 pub data Alone : List (Chunk Span) → Type 0 where

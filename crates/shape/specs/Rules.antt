@@ -22,9 +22,9 @@ use Rattle.machine.specs.Chunks.{Chunk}
 use Rattle.machine.specs.States.{live}
 use Rattle.results.specs.Bounded.{unreadIn, symbolsIn, terminalsIn, runningIn, potentialIn}
 use Rattle.area.specs.declared.shape.Walk.{Walk}
-use Rattle.area.specs.Layout.{stackSize, unreadSize, statusWord, total, rows, slots, zeros, encode}
-use Rattle.area.specs.Kept.{LastHolds, Ending, whole, accepted, FirstLive, first-live}
-use Rattle.area.specs.Lengths.{no-slots, tiles-within}
+use Rattle.layout.specs.Layout.{stackSize, unreadSize, statusWord, total, rows, slots, zeros, encode}
+use Rattle.layout.specs.Kept.{LastHolds, Ending, whole, accepted, FirstLive, first-live}
+use Rattle.layout.specs.Lengths.{no-slots, tiles-within}
 use Rattle.area.specs.Shape.{walkOf, firstFits, endFits, potentialOf, blank}
 use Rattle.shape.specs.Walks.{AllFit, walk-passes, counted-all, status-word}
 use Rattle.shape.specs.Chunkwise.{tiles-from, last-from}

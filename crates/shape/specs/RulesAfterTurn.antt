@@ -1,7 +1,7 @@
 -- Each rule of a row by itself, after a step or a join: as many chunk numbers; chunk 0 live, its stack not empty; symbols side by side
 -- up to where the last live chunk ends; symbols in range; stuck chunks; and a terminal gone for each reduction.
 -- Document 01, "Moves of a chunk"; docs/AREA.md, rules (d), (e), (f), (h) and (i).
--- Rests on Tiling and RowAfterTurn, and on area's Kept and RowCounts, and on machine's Schedules and AllowedExactly and results' RunsEnd.
+-- Rests on Tiling and RowAfterTurn, and on layout's Kept and RowCounts, and on machine's Schedules and AllowedExactly and results' RunsEnd.
 --
 -- Main statements: same-number, first-of, holds-kept, whole-before, stands, ranged-kept, stuck-kept, terminals-fall.
 use mathlib.Core.Path.{_≡_, refl, ap}
@@ -22,11 +22,11 @@ use Rattle.results.specs.Bounded.{terminalsIn, terminals-append, terminals-of-s
 use Rattle.machine.specs.Allowed.{HandleAbove, from-nonterminal, from-mark, up-to-unmarked, up-to-nonterminal, Steps, JoinsAt}
 use Rattle.machine.specs.AllowedExactly.{HandleView, a-handle, handle-view, step-exactly, join-exactly}
 use Rattle.machine.specs.Schedules.{IsLive, firstStack, Turned, by-step, by-join, Made, has-read, has-replaced, got-stuck, Changed, moves-one, joins-two, further}
-use Rattle.area.specs.Layout.{marks}
-use Rattle.area.specs.Kept.{Tiles, AllInRange, in-range, LastHolds, holds, later-holds, Ending, whole, accepted, StuckFine}
-use Rattle.area.specs.Kept.{not-stuck, stuck-fine, AllStuckFine, and-chunk, FirstLive, first-live}
+use Rattle.layout.specs.Layout.{marks}
+use Rattle.layout.specs.Kept.{Tiles, AllInRange, in-range, LastHolds, holds, later-holds, Ending, whole, accepted, StuckFine}
+use Rattle.layout.specs.Kept.{not-stuck, stuck-fine, AllStuckFine, and-chunk, FirstLive, first-live}
 use Rattle.shape.specs.Tiling.{tiles-split, tiles-join, ranged-split, ranged-join, tiles-replaced, end-is-last}
-use Rattle.area.specs.RowCounts.{no-symbol}
+use Rattle.layout.specs.RowCounts.{no-symbol}
 use Rattle.shape.specs.RowAfterTurn.{Alone, alone, RowThen, same-symbols, handle-replaced, end-read}
 
 -- ---- as many numbers, live and gone

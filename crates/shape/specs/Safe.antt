@@ -5,7 +5,7 @@
 -- The list of docs/AREA.md, which Shape tests on words, is a list of its own. Today it holds exactly for the words of safe states. A
 -- rule that only states reached from a start keep would be added to that list, and not here: safety does not rest on it, and a
 -- move of a state that was never reached need not keep it.
--- Rests on KeptByTurns, and on area's Kept, StartKept and EndMarkOfShape.
+-- Rests on KeptByTurns, and on layout's Kept, start's StartKept and matrix's EndMarkOfShape.
 --
 -- Main definition: Safe. Main statements: safe-turned, safe-run, safe-scheduled, safe-start, safe-reached.
 use mathlib.Core.Path.{_≡_}
@@ -21,12 +21,12 @@ use Rattle.machine.specs.Moves.{Table}
 use Rattle.machine.specs.States.{State, ran, run, start}
 use Rattle.machine.specs.TableOf.{tableOf}
 use Rattle.machine.specs.Schedules.{Turned, Schedule}
-use Rattle.area.specs.Shape.{grammarInShape}
-use Rattle.area.specs.Start.{StartInput, Startable}
-use Rattle.area.specs.Kept.{Kept}
-use Rattle.area.specs.EndMarkOfShape.{grammar-in-shape, end-mark-in-shape, matrix-in-shape}
+use Rattle.matrix.specs.GrammarShape.{grammarInShape}
+use Rattle.start.specs.Start.{StartInput, Startable}
+use Rattle.layout.specs.Kept.{Kept}
+use Rattle.matrix.specs.EndMarkOfShape.{grammar-in-shape, end-mark-in-shape, matrix-in-shape}
 use Rattle.shape.specs.KeptByTurns.{kept-turned, kept-run, kept-scheduled}
-use Rattle.area.specs.StartKept.{startable-kept}
+use Rattle.start.specs.StartKept.{startable-kept}
 
 -- a row of n tokens that is safe to read with these grammar words
 abbrev pub Safe : List ℕ → ℕ → State Span → Type 0

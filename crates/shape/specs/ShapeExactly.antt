@@ -25,8 +25,8 @@ use Rattle.machine.specs.Chunks.{Chunk}
 use Rattle.machine.specs.States.{State, live}
 use Rattle.results.specs.Bounded.{mostMoves}
 use Rattle.area.specs.declared.shape.Walk.{Walk}
-use Rattle.area.specs.Layout.{need, front, total, rows, slots, zeros, encode, slotsAt, madeAtWord}
-use Rattle.area.specs.Kept.{FirstLive, Kept}
+use Rattle.layout.specs.Layout.{need, front, total, rows, slots, zeros, encode, slotsAt, madeAtWord}
+use Rattle.layout.specs.Kept.{FirstLive, Kept}
 use Rattle.area.specs.Shape.{ruleC, walkOf, firstFits, endFits, ruleI, ruleJ, potentialOf, blank, ruleK, areaInShape}
 use Rattle.shape.specs.Walks.{AllFit}
 use Rattle.shape.specs.WalksRead.{walk-reads}

@@ -18,9 +18,9 @@ use Rattle.machine.specs.Chunks.{Chunk}
 use Rattle.machine.specs.States.{State, live}
 use Rattle.results.specs.Bounded.{terminalsIn, potential, mostMoves}
 use Rattle.area.specs.declared.shape.Walk.{Walk}
-use Rattle.area.specs.Layout.{need, total, encode, slotsAt, madeAtWord}
-use Rattle.area.specs.Kept.{FirstLive, first-live, Kept}
-use Rattle.area.specs.Lengths.{encode-length, total-is, within-slots}
+use Rattle.layout.specs.Layout.{need, total, encode, slotsAt, madeAtWord}
+use Rattle.layout.specs.Kept.{FirstLive, first-live, Kept}
+use Rattle.layout.specs.Lengths.{encode-length, total-is, within-slots}
 use Rattle.area.specs.Shape.{ruleC, walkOf, firstFits, endFits, ruleI, ruleJ, blank, ruleK, areaInShape}
 use Rattle.shape.specs.Chunkwise.{kept-fits}
 use Rattle.shape.specs.Encoded.{area, slotsFrom, fromSlots, fromUnusedSlots, fromMade, tokens-at, chunks-at, moves-at}

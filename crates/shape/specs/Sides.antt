@@ -19,8 +19,8 @@ use Rattle.language.specs.Trees.{Span}
 use Rattle.machine.specs.Entries.{Entry, terminalOn, nonterminalOn, symbol, unmarked}
 use Rattle.results.specs.RunsEnd.{oneUnlessEnd, terminalsOn}
 use Rattle.area.specs.declared.shape.Scan.{Scan}
-use Rattle.area.specs.Layout.{more, size, block, markWord, stackSize, marks}
-use Rattle.area.specs.Kept.{SymbolInRange}
+use Rattle.layout.specs.Layout.{more, size, block, markWord, stackSize, marks}
+use Rattle.layout.specs.Kept.{SymbolInRange}
 use Rattle.area.specs.Shape.{tag, oneIfTerminal, scanSlot, scanned, freshScan, sideFits}
 use Rattle.shape.specs.Blocks.{lastSlots, block-slots, EntryStands, word, Opening, tests-to-stands, passedOver, scan-block, SlotView, starts, goes-on, slot-view}
 

@@ -1,7 +1,7 @@
 -- Symbols side by side on slots: parts of a row side by side; a handle replaced by one symbol over its slots; and the # of the end
 -- after # and one symbol, which is then the whole row.
 -- Document 01, "The report": "rule, first place, place after the last"; docs/AREA.md, rules (e) and (f).
--- Rests on area's Kept and Lengths, and on machine's Spans.
+-- Rests on layout's Kept and Lengths, and on machine's Spans.
 --
 -- Main statements: tiles-split, tiles-join, ranged-split, ranged-join, tiles-replaced, end-is-last.
 use mathlib.Core.Path.{_≡_, refl, ap, _∙_}
@@ -12,9 +12,9 @@ use Rattle.language.specs.Symbols.{Symbol, terminal, nonterminal}
 use Rattle.language.specs.Trees.{Span}
 use Rattle.machine.specs.Entries.{Unread, nonterminalAt, symbol, valueOf}
 use Rattle.machine.specs.Spans.{lastAfter, spanOf}
-use Rattle.area.specs.Layout.{size, spanAt}
-use Rattle.area.specs.Kept.{Lies, first-end, last-end, within, Tiles, tiled, tile, AllInRange, none-left, in-range}
-use Rattle.area.specs.Lengths.{no-slots, tiles-end}
+use Rattle.layout.specs.Layout.{size, spanAt}
+use Rattle.layout.specs.Kept.{Lies, first-end, last-end, within, Tiles, tiled, tile, AllInRange, none-left, in-range}
+use Rattle.layout.specs.Lengths.{no-slots, tiles-end}
 
 -- ---- parts of a row side by side
 

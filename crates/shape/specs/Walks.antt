@@ -26,9 +26,9 @@ use Rattle.results.specs.RunsEnd.{terminalsOn, terminalsUnread}
 use Rattle.results.specs.Bounded.{oneIfRunning, unreadIn, symbolsIn, terminalsIn, runningIn}
 use Rattle.area.specs.declared.shape.Scan.{Scan}
 use Rattle.area.specs.declared.shape.Walk.{Walk}
-use Rattle.area.specs.Layout.{stackSize, stackWords, marks, unreadSize, unreadWords, chunkSize, chunkWords, statusWord, row, total, rows, slots}
-use Rattle.area.specs.Kept.{StuckFine, not-stuck, stuck-fine}
-use Rattle.area.specs.Lengths.{length-stack, length-chunk, length-row}
+use Rattle.layout.specs.Layout.{stackSize, stackWords, marks, unreadSize, unreadWords, chunkSize, chunkWords, statusWord, row, total, rows, slots}
+use Rattle.layout.specs.Kept.{StuckFine, not-stuck, stuck-fine}
+use Rattle.layout.specs.Lengths.{length-stack, length-chunk, length-row}
 use Rattle.shape.specs.Encoded.{slotsFrom, slots-past}
 use Rattle.area.specs.Shape.{side, statusFits, boundsFit, stuckFits, sidesFit, counted, lineOf, walked}
 use Rattle.shape.specs.Sides.{risingWords, Placed, placed-end, Scanned, scan-passes}

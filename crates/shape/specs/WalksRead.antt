@@ -25,8 +25,8 @@ use Rattle.machine.specs.Moves.{noRelation, noRule, notAxiom, sideBySide}
 use Rattle.machine.specs.Chunks.{Status, running, stuck, Chunk}
 use Rattle.area.specs.declared.shape.Scan.{Scan}
 use Rattle.area.specs.declared.shape.Walk.{Walk}
-use Rattle.area.specs.Layout.{stackSize, stackWords, marks, unreadSize, unreadWords, chunkSize, chunkWords, statusWord, row, total, rows, slots, slotsAt}
-use Rattle.area.specs.Kept.{StuckFine, not-stuck, stuck-fine}
+use Rattle.layout.specs.Layout.{stackSize, stackWords, marks, unreadSize, unreadWords, chunkSize, chunkWords, statusWord, row, total, rows, slots, slotsAt}
+use Rattle.layout.specs.Kept.{StuckFine, not-stuck, stuck-fine}
 use Rattle.shape.specs.Encoded.{slotsFrom}
 use Rattle.area.specs.Shape.{side, sideFits, statusFits, goneFits, boundsFit, stuckFits, sidesFit, fallen, counted, liveLine, lineOf, walked}
 use Rattle.shape.specs.Sides.{risingWords, placed-end, placed-at, Scanned, HoldsEntries, scan-reads}

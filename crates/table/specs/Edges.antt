@@ -1,7 +1,7 @@
 -- Right sides of checked words, word by word, and how they start: with a terminal, or with a nonterminal and then a terminal.
 -- Document 01, "Numbers" ("Terminals are 1 to T, T at most 63"; "Nonterminals are 0 to N-1, N at most 64"; "a terminal as its
 -- number, nonterminal k as 256 + k") and 4 FORM: "a right side has two adjacent nonterminals, or no terminal".
--- Rests on Sided.
+-- Rests on Sided, and on words' Rules.
 --
 -- Main definitions: RightSide, Front, Edged. Main statements: right-side, front, edged, followed.
 use mathlib.Core.Path.{_≡_, refl, ap, _∙_}
@@ -16,7 +16,7 @@ use Rattle.laws.specs.Tests.{upTo-below}
 use Rattle.language.specs.Symbols.{terminal, symbolOf}
 use Rattle.language.specs.Grammar.{Grammar, inPlay, Spells, Has}
 use Rattle.language.specs.CheckForm.{form-adjacent, form-bare, noTerminal, no-terminal-iff}
-use Rattle.table.specs.Rules.{is-terminal, is-nonterminal}
+use Rattle.words.specs.Rules.{is-terminal, is-nonterminal}
 use Rattle.table.specs.Sided.{RulesOf}
 
 -- the words of a right side: each is a terminal 1 to 63 or a nonterminal below 64, no two nonterminals are adjacent, and one is a terminal

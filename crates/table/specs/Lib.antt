@@ -1,16 +1,9 @@
-pub mod Answered
 pub mod Edges
 pub mod Filled
-pub mod Forms
-pub mod Laid
 pub mod Loaded
 pub mod MaskRows
-pub mod Places
 pub mod RelationRows
-pub mod Rules
-pub mod Search
 pub mod SetPasses
 pub mod Shown
 pub mod Sided
-pub mod Twins
 pub mod Walks

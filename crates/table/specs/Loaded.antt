@@ -1,6 +1,6 @@
 -- What loading a grammar and asking a set answer, check by check, after the words have been checked.
 -- Document 01: "Loading checks 1 to 6 in that order, each over the whole grammar, then 11. Asking a set checks 1 to 5, then 21."
--- Rests on language's Loads and Stages, and on Answered.
+-- Rests on language's Loads and Stages, and on words' Answered.
 --
 -- Main statements: refused-load, conflict-load, room-load, done-load; refuses, loads; refused-set, no-such-set, given-set.
 use mathlib.Core.Path.{_≡_, sym, ap, _∙_}
@@ -28,9 +28,10 @@ use Rattle.language.specs.CheckTwins.{twinCondition}
 use Rattle.language.specs.SetMasks.{leftSet, leftSize}
 use Rattle.language.specs.Conflicts.{clashAt, conflictStage}
 use Rattle.language.specs.Matrix.{entryAt, matrixOf}
-use Rattle.language.specs.Loads.{LoadInput, conflictCondition, matrixRoom, roomCondition, loadAnswer, loadBytes, loadedBytes, SetInput, pastTheLast, nonterminalCondition, setChecked, setOrRefusal}
+use Rattle.language.specs.Loads.{LoadInput, conflictCondition, matrixRoom, roomCondition, loadAnswer, loadBytes, loadedBytes}
+use Rattle.language.specs.Loads.{SetInput, pastTheLast, nonterminalCondition, setChecked, setOrRefusal}
 use Rattle.refusals.specs.declared.SetAnswer.the-variants as set
-use Rattle.table.specs.Answered.{refused, passed}
+use Rattle.words.specs.Answered.{refused, passed}
 
 -- ---- load
 

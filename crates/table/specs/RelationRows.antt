@@ -27,7 +27,7 @@ use Rattle.language.specs.SetMasks.{InRange, leftMember}
 use Rattle.language.specs.RelationTests.{equalTest, yieldsTest, takesTest, startsAxiom, endsAxiom, inUse, firstOf, relationOf, equal-exactly, yields-exactly, takes-exactly}
 use Rattle.language.specs.RelationPairs.{in-use, equal-pair, yields-pair, takes-pair}
 use Rattle.language.specs.Conflicts.{twoOf, clash, clashAt}
-use Rattle.language.specs.Matrix.{entryAt}
+use Rattle.language.specs.Matrix.{entryAt, number-small}
 use Rattle.table.specs.MaskRows.{none-bit}
 use Rattle.table.specs.Shown.{holds, Adds, here, anywhere, row-same}
 use Rattle.table.specs.SetPasses.{AreSets}
@@ -204,19 +204,17 @@ entryIn rows v = pairNumber (holds rows equal (v / 64) (v % 64)) (holds rows yie
 abbrev pub markedAt : Grammar → ℕ → ℕ
 markedAt g v = pick (clashAt g v) 4 (entryAt g v)
 
-number-small : (r : Relation) → relationNumber r ≤ 3
-number-small blank = omega arith
-number-small yields = omega arith
-number-small equal = omega arith
-number-small takes = omega arith
+-- a pair is unused only if one of the two is past T
+not-used : (g : Grammar) (a b : ℕ) → inUse g a b ≡ false → a ≤ g .terminals → b ≤ g .terminals → ⊥
+not-used g a b u p q = not-both (inUse g a b) (in-use g a b p q) u
 
 module _ {g : Grammar} (range : InRange g) where
   -- an unused pair has no relation
   unused : (a b : ℕ) → inUse g a b ≡ false → (k : Relation) → testOf g k a b ≡ false
   unused a b u blank = refl
-  unused a b u yields = false-unless (yieldsTest g a b) (λ t. let p = yields-pair range (yields-exactly range a b .0 t) in not-both (inUse g a b) (in-use g a b (p .left-used) (p .right-used)) u)
-  unused a b u equal = false-unless (equalTest g a b) (λ t. let p = equal-pair range (equal-exactly g a b .0 t) in not-both (inUse g a b) (in-use g a b (p .left-used) (p .right-used)) u)
-  unused a b u takes = false-unless (takesTest g a b) (λ t. let p = takes-pair range (takes-exactly range a b .0 t) in not-both (inUse g a b) (in-use g a b (p .left-used) (p .right-used)) u)
+  unused a b u yields = false-unless (yieldsTest g a b) (λ t. let p = yields-pair range (yields-exactly range a b .0 t) in not-used g a b u (p .left-used) (p .right-used))
+  unused a b u equal = false-unless (equalTest g a b) (λ t. let p = equal-pair range (equal-exactly g a b .0 t) in not-used g a b u (p .left-used) (p .right-used))
+  unused a b u takes = false-unless (takesTest g a b) (λ t. let p = takes-pair range (takes-exactly range a b .0 t) in not-used g a b u (p .left-used) (p .right-used))
 
   -- so the tests of a pair need not ask whether it is used
   clash-is : (a b : ℕ) → twoOf (equalTest g a b) (yieldsTest g a b) (takesTest g a b) ≡ clash g a b

@@ -3,7 +3,7 @@
 -- Document 01, "Sets and matrix": "The left set of X is the least set such that, for every rule X -> w: if w starts with terminal
 -- a, or with a nonterminal and then a, then a is in it; and if w starts with nonterminal Y, all of Y's left set is. The right set
 -- mirrors this from the end. All R rules count."
--- Rests on Edges and MaskRows, and on language's SetMasks.
+-- Rests on Edges and MaskRows, on words' Rules and on language's SetMasks.
 --
 -- Main definitions: brought, gained, Sound, Changed, Grown, Members, AreSets.
 -- Main statements: gained-sound (no pass brings anything else), gained-changed (a rule that changes a mask adds a member),
@@ -27,7 +27,7 @@ use Rattle.language.specs.Symbols.{Symbol, terminal, nonterminal, symbolOf}
 use Rattle.language.specs.Grammar.{Grammar, leftSide, Spells, mirrored}
 use Rattle.language.specs.Sets.{InLeft, starts, starts-after, starts-within}
 use Rattle.language.specs.SetMasks.{leftMember, leftSet, left-member-exactly, left-within, left-set-is}
-use Rattle.table.specs.Rules.{is-terminal, is-nonterminal}
+use Rattle.words.specs.Rules.{is-terminal, is-nonterminal}
 use Rattle.table.specs.MaskRows.{gains, gains-bit, none-bit, total, gains-grows, total-most, mask-low}
 use Rattle.table.specs.Sided.{RulesOf, leftOf, sideWords}
 use Rattle.table.specs.Edges.{spelled, right-side, Front, terminal-first, nonterminal-first, front}

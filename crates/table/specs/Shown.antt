@@ -3,7 +3,7 @@
 -- Document 01, "Sets and matrix": "equal (2): some right side has a then b, or a, one nonterminal, b. yields (1): some right side
 -- has a then nonterminal D, and b is in D's left set. takes (3): some right side has nonterminal D then b, and a is in D's right
 -- set."
--- Rests on Edges, MaskRows and SetPasses, and on language's SetMasks.
+-- Rests on Edges, MaskRows and SetPasses, on words' Rules and on language's SetMasks.
 --
 -- Main definitions: holds, Adds, here, shownBy, pairShown, anywhere, Walked.
 -- Main statements: pair-adds, around-adds (what a pair of neighbours adds, and one around a nonterminal), walked-step, walked-end
@@ -26,7 +26,7 @@ use Rattle.language.specs.Grammar.{Grammar, mirrored}
 use Rattle.language.specs.RightSides.{Pattern, this, one, passes, fits}
 use Rattle.language.specs.SetMasks.{leftMember}
 use Rattle.table.specs.declared.relations.Added.{Added}
-use Rattle.table.specs.Rules.{is-terminal, is-nonterminal}
+use Rattle.words.specs.Rules.{is-terminal, is-nonterminal}
 use Rattle.table.specs.MaskRows.{gains, gains-bit}
 use Rattle.table.specs.Edges.{RightSide}
 use Rattle.table.specs.SetPasses.{AreSets}
@@ -263,9 +263,11 @@ neighbours ws s i h =
     first (yes a) (no d) (yes c) =
         let n = s .apart (suc i) c (omega arith) in
         rw (drop-cons ws (suc (suc i)) 0 c)
-        (around {d = getD ws (suc i) 0} (s .terminal-low i (omega arith) a) (omega arith) (s .nonterminal-low (suc i) h) (s .positive (suc (suc i)) c) (s .terminal-low (suc (suc i)) c n))
+        (around {d = getD ws (suc i) 0} (s .terminal-low i (omega arith) a) (omega arith) (s .nonterminal-low (suc i) h)
+        (s .positive (suc (suc i)) c) (s .terminal-low (suc (suc i)) c n))
     first (yes a) (no d) (no c) =
-        rw (drop-of-length-le ws {i = suc (suc i)} (omega arith)) (before-last {d = getD ws (suc i) 0} (s .terminal-low i (omega arith) a) (omega arith) (s .nonterminal-low (suc i) h))
+        rw (drop-of-length-le ws {i = suc (suc i)} (omega arith))
+        (before-last {d = getD ws (suc i) 0} (s .terminal-low i (omega arith) a) (omega arith) (s .nonterminal-low (suc i) h))
     first (no d) b c =
         let n = s .apart i h (omega arith) in
         after-first {d = getD ws i 0} (omega arith) (s .nonterminal-low i (omega arith)) (s .terminal-low (suc i) h n)

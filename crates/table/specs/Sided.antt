@@ -1,7 +1,7 @@
 -- The grammar of checked words seen from one side: as it is, or with every right side turned round, its rules by their words.
 -- Document 01, "Sets and matrix": "The right set mirrors this from the end." One piece of code works out both sets: it looks at
 -- right sides from their start or from their end.
--- Rests on language's Words, Mirror, WordsInRange and Checks.
+-- Rests on words' Laid, and on language's Words, Mirror, WordsInRange and Checks.
 --
 -- Main definitions: turned, sided, RulesOf. Main statements: part-at, from-start, from-the-end, side-length, passed-laid, side-rules.
 use mathlib.Core.Path.{_≡_, refl, sym, ap, _∙_}
@@ -24,7 +24,7 @@ use Rattle.language.specs.Checks.{Passed}
 use Rattle.language.specs.Mirror.{mirrored-plays, mirrored-left, mirrored-rule, has-turned}
 use Rattle.language.specs.SetMasks.{InRange, in-range-mirrored}
 use Rattle.language.specs.WordsInRange.{rules-count, rule-at, in-range, few-terminals, few-nonterminals}
-use Rattle.table.specs.Laid.{Laid, headed, laid}
+use Rattle.words.specs.Laid.{Laid, headed, laid}
 
 -- a string seen from its start, or from its end
 abbrev pub turned : {A : Type 0} → Bool → List A → List A

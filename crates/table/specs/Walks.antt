@@ -1,7 +1,7 @@
 -- The walk over the words of one right side, pair by pair.
 -- Document 01, "Sets and matrix": "some right side has a then b, or a, one nonterminal, b", "a then nonterminal D", "nonterminal D
 -- then b".
--- Rests on Shown, Sided and Edges.
+-- Rests on Shown, Sided and Edges, and on words' Laid, Rules and Forms.
 --
 -- Main definition: Walking. Main statements: walking-start, walking-end; pair, pair-around (what code asks of a pair), step-alone, step-around
 -- (what the walk has shown).
@@ -19,13 +19,14 @@ use Rattle.language.specs.Symbols.{Symbol, symbolOf, Relation}
 use Rattle.language.specs.Grammar.{ruleAt}
 use Rattle.language.specs.Words.{word, countR, entry, bodyEnd, rightWords, grammarOf}
 use Rattle.language.specs.Checks.{Passed}
-use Rattle.table.specs.Laid.{within}
-use Rattle.table.specs.Rules.{right-of}
-use Rattle.table.specs.Forms.{symbolsIn}
+use Rattle.words.specs.Laid.{within}
+use Rattle.words.specs.Rules.{right-of}
+use Rattle.words.specs.Forms.{symbolsIn}
 use Rattle.table.specs.Sided.{part-at, passed-laid, side-rules}
 use Rattle.table.specs.Edges.{right-side}
 use Rattle.table.specs.SetPasses.{AreSets}
-use Rattle.table.specs.Shown.{Adds, here, anywhere, pairShown, Neighbours, neighbours, Paired, paired, paired-around, pair-adds, around-adds, Walked, walked-none, walked-step, walked-end}
+use Rattle.table.specs.Shown.{Adds, here, anywhere, pairShown, Neighbours, neighbours, Paired, paired, paired-around}
+use Rattle.table.specs.Shown.{pair-adds, around-adds, Walked, walked-none, walked-step, walked-end}
 
 module _ (words : List ℕ) (passed : Passed words) (r : ℕ) (h : r < countR words) where
   abbrev start : ℕ

@@ -1,34 +1,23 @@
-// The table of a grammar, worked out from its words. Document 01, "The grammar words", "Refusal numbers".
+// The table of a grammar, worked out from its words: its matrix and its sets. Document 01, "Sets and matrix", "Refusal numbers".
 mod relations;
 mod sets;
-mod words;
 
 use refusals::Answer;
 use refusals::Refusal;
 use refusals::SetAnswer;
 ghost use mathlib.Core.Path.{_≡_};
+ghost use Prim.Native.Nat.{_<_};
 ghost use lib.ListN.{length};
-ghost use Rattle.language.specs.Words.{grammarOf};
-ghost use Rattle.language.specs.Checks.{checkSymbols, checkWords};
+ghost use Rattle.language.specs.Words.{word, grammarOf};
 ghost use Rattle.language.specs.Loads.{loadAnswer, loadBytes, setChecked, setOrRefusal, leftSetAnswer, rightSetAnswer};
 ghost use Rattle.table.specs.Sided.{sided};
 
-// Checks 1 to 3: the head, the contents, and that every body word is a symbol.
-pub fn check_symbols(words: &[u16]) -> Answer
-    ensures { λ r. ⌜ r ≡ checkSymbols (now (words .entry)) ⌝ }
+// The word at place i.
+fn word(words: &[u16], i: usize) -> usize
+    requires { ⌜ i < length (now words) ⌝ }
+    ensures { λ r. ⌜ r ≡ word (now (words .entry)) i ⌝ }
 {
-    words::head(words)
-}
-
-// Checks 1 to 5: after 1 to 3 the form of each right side, and that no two rules have the same.
-pub fn check_words(words: &[u16]) -> Answer
-    ensures { λ r. ⌜ r ≡ checkWords (now (words .entry)) ⌝ }
-{
-    let symbols = check_symbols(words);
-    if let Answer::Refused(_) = symbols {
-        return symbols;
-    }
-    words::forms(words)
+    words[i] as usize
 }
 
 // Checks 1 to 6 and then 11, and writes the matrix: 4,096 bytes, anything beyond is untouched.
@@ -36,7 +25,7 @@ pub fn load(words: &[u16], matrix: &mut [u8]) -> Answer
     ensures answer { λ r. ⌜ r ≡ loadAnswer (now (words .entry)) (length (now (matrix .entry))) ⌝ }
     ensures bytes { λ r. ⌜ now (matrix .exit) ≡ loadBytes (now (words .entry)) (now (matrix .entry)) ⌝ }
 {
-    let words_checked = check_words(words);
+    let words_checked = words::check_words(words);
     if let Answer::Refused(_) = words_checked {
         return words_checked;
     }
@@ -47,11 +36,11 @@ pub fn load(words: &[u16], matrix: &mut [u8]) -> Answer
 fn set_of(words: &[u16], k: u32, from_end: bool) -> SetAnswer
     ensures { λ r. ⌜ r ≡ setOrRefusal (setChecked (now (words .entry)) k) (sided «from_end» (grammarOf (now (words .entry)))) k ⌝ }
 {
-    if let Answer::Refused(refusal) = check_words(words) {
+    if let Answer::Refused(refusal) = words::check_words(words) {
         return SetAnswer::Refused(refusal);
     }
     let number = k as usize;
-    if words::word(words, 1) <= number {
+    if word(words, 1) <= number {
         return SetAnswer::Refused(Refusal::NoNonterminal);
     }
     let masks = sets::masks(words, from_end);

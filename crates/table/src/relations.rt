@@ -2,7 +2,7 @@
 // Document 01, "Sets and matrix". # is terminal 0.
 // Row a holds the b that a is equal to, row 64 + a the b that a yields to, and row 128 + b the a that take over b.
 use crate::sets;
-use crate::words;
+use crate::word;
 use refusals::Answer;
 use refusals::Refusal;
 ghost use mathlib.Core.Path.{_≡_};
@@ -61,17 +61,18 @@ fn rule_shows(words: &[u16], r: usize, left: &[u64; 64], right: &[u64; 64], rows
     requires { ⌜ Passed (now words) × (r < countR (now words)) × AreSets (grammarOf (now words)) (now left) (now right) × (length (now rows) ≡ 192) ⌝ }
     ensures { λ _. ⌜ Adds (λ k a b. shownIn (grammarOf (now (words .entry))) k a b r) (now (rows .entry)) (now (rows .exit)) ⌝ }
 {
-    let end = words::body_end(words, r);
+    let body = words::body_of(words, r);
+    let end = body.end;
     // a and b stand at p - 1 and p
-    let mut p = words::entry(words, r) + 2;
+    let mut p = body.start + 2;
     while p < end {
-        let a = words::word(words, p - 1);
-        let b = words::word(words, p);
+        let a = word(words, p - 1);
+        let b = word(words, p);
         show(a, b, left, right, rows);
         p += 1;
         // the terminals around a nonterminal
         if (256 <= b) & (p < end) {
-            show(a, words::word(words, p), left, right, rows);
+            show(a, word(words, p), left, right, rows);
         }
     }
 }
@@ -95,7 +96,7 @@ fn ends_show(words: &[u16], left: &[u64; 64], right: &[u64; 64]) -> [u64; 192]
     requires { ⌜ Passed (now words) × AreSets (grammarOf (now words)) (now left) (now right) ⌝ }
     ensures { λ rows. ⌜ Seen (grammarOf (now (words .entry))) 0 rows ⌝ }
 {
-    let axioms = words::word(words, 2);
+    let axioms = word(words, 2);
     let mut rows = [0u64; 192];
     rows[0] = 1;
     rows[64] = union_of(left, axioms);
@@ -111,7 +112,7 @@ fn relations_of(words: &[u16]) -> [u64; 192]
     let left = &sets::masks(words, false);
     let right = &sets::masks(words, true);
     let mut rows = ends_show(words, left, right);
-    let rules = words::word(words, 3);
+    let rules = word(words, 3);
     let mut r: usize = 0;
     while r < rules {
         rule_shows(words, r, left, right, &mut rows);

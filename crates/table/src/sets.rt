@@ -1,12 +1,12 @@
 // The left and right sets of all nonterminals as masks. Document 01, "Sets and matrix".
 // The right sets mirror the left sets: everything here looks at right sides from their start, or from their end.
-use crate::words;
+use crate::word;
 ghost use mathlib.Core.Path.{_≡_};
 ghost use Prim.Native.Nat.{_+_, _<_};
 ghost use lib.ListN.{length, getD};
 ghost use Rattle.language.specs.Words.{countR, entry, bodyEnd, grammarOf};
 ghost use Rattle.language.specs.Checks.{Passed};
-ghost use Rattle.table.specs.Laid.{Laid};
+ghost use Rattle.words.specs.Laid.{Laid};
 ghost use Rattle.table.specs.Sided.{sided, sideWords};
 ghost use Rattle.table.specs.SetPasses.{brought, gained, Sound, Members, Changed, Grown};
 
@@ -15,10 +15,11 @@ fn word_from(words: &[u16], r: usize, i: usize, from_end: bool) -> usize
     requires { ⌜ Laid (now words) × (r < countR (now words)) × (entry (now words) r + 1 + i < bodyEnd (now words) r) ⌝ }
     ensures { λ w. ⌜ w ≡ getD (sideWords (now (words .entry)) «from_end» r) i 0 ⌝ }
 {
+    let body = words::body_of(words, r);
     if from_end {
-        return words::word(words, words::body_end(words, r) - 1 - i);
+        return word(words, body.end - 1 - i);
     }
-    words::word(words, words::entry(words, r) + 1 + i)
+    word(words, body.start + 1 + i)
 }
 
 // What rule r brings to the set of its left side, given the sets so far: its outermost terminal, and all of the set of a
@@ -40,7 +41,8 @@ fn gain(words: &[u16], masks: &mut [u64; 64], r: usize, from_end: bool) -> bool
     ensures is { λ b. ⌜ now (masks .exit) ≡ gained (now (words .entry)) «from_end» (now (masks .entry)) r ⌝ }
     ensures changed { λ b. ⌜ Changed (now (masks .entry)) (now (masks .exit)) b ⌝ }
 {
-    let left = words::word(words, words::entry(words, r));
+    let body = words::body_of(words, r);
+    let left = word(words, body.start);
     let old = masks[left];
     let new = old | brought(words, masks, r, from_end);
     masks[left] = new;
@@ -53,7 +55,7 @@ fn pass(words: &[u16], masks: &mut [u64; 64], from_end: bool) -> bool
     ensures sound { λ b. ⌜ Sound (sided «from_end» (grammarOf (now (words .entry)))) (now (masks .exit)) ⌝ }
     ensures grown { λ b. ⌜ Grown (gained (now (words .entry)) «from_end») (now (masks .entry)) (now (masks .exit)) (countR (now (words .entry))) b ⌝ }
 {
-    let rules = words::word(words, 3);
+    let rules = word(words, 3);
     let mut changed = false;
     let mut r: usize = 0;
     while r < rules {

@@ -11,6 +11,8 @@ use Prim.Native.Nat.{ℕ, _+_, _-_, _*_, _≤_}
 use native.Mathlib.Omega.{arith}
 use lib.Dec.{leb, eqb}
 use lib.ListN.{length, length-set}
+use Rattle.laws.specs.Ascii.{lineFeed, space}
+use Rattle.laws.specs.Decimals.{isDigit}
 use Rattle.laws.specs.Picks.{pick-with}
 use Rattle.laws.specs.Tests.{leb-false}
 use Rattle.text.specs.declared.reading.Line.{Line}
@@ -20,7 +22,7 @@ use Rattle.text.specs.declared.reading.Phase.the-variants.{Fresh, Number
 use Rattle.text.specs.declared.reading.State.{State}
 use Rattle.text.specs.declared.reading.TextAnswer.{TextAnswer}
 use Rattle.text.specs.declared.reading.TextAnswer.the-variants.{More, BadLine, Lines}
-use Rattle.text.specs.Readings.{lineFeed, space, isDigit, mostWords, mostTokens, mostCuts}
+use Rattle.text.specs.Readings.{mostWords, mostTokens, mostCuts}
 use Rattle.text.specs.Feeding.{Held, start, within, inPhase, started, nextLine, opened, longer, full, keptIn, kept, followed, ended}
 use Rattle.text.specs.Feeding.{fedIn, fed, fedAll, fed-in, answerIn, answerOf, finishIn, finishOf}
 

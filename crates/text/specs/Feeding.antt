@@ -12,6 +12,8 @@ use lib.Dec.{leb, eqb}
 use native.Mathlib.Numerals.{add-one}
 use lib.ListN.{length, getD, drop, set, drop-of-length-le}
 use lib.Seq.{drop-cons}
+use Rattle.laws.specs.Ascii.{lineFeed, space}
+use Rattle.laws.specs.Decimals.{isDigit}
 use Rattle.laws.specs.Picks.{pick}
 use Rattle.text.specs.declared.reading.Line.{Line}
 use Rattle.text.specs.declared.reading.Line.the-variants.{Words, Tokens, Cuts}
@@ -20,7 +22,7 @@ use Rattle.text.specs.declared.reading.Phase.the-variants.{Fresh, Number
 use Rattle.text.specs.declared.reading.State.{State}
 use Rattle.text.specs.declared.reading.TextAnswer.{TextAnswer}
 use Rattle.text.specs.declared.reading.TextAnswer.the-variants.{More, BadLine, Lines}
-use Rattle.text.specs.Readings.{lineFeed, space, isDigit, mostWords, mostTokens, mostCuts}
+use Rattle.text.specs.Readings.{mostWords, mostTokens, mostCuts}
 
 -- a state, and what the buffers hold
 pub record Held : Type 0 where

@@ -1,6 +1,3 @@
-pub mod AnswerLines
-pub mod Ascii
-pub mod Decimals
 pub mod FedLimits
 pub mod Feeding
 pub mod LineFed

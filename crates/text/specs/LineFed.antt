@@ -12,6 +12,8 @@ use Prim.Native.Nat.{ℕ, zero, suc, _+_, _-_, _*_}
 use native.Mathlib.Omega.{arith}
 use lib.Dec.{leb, eqb, leb·zero, leb·suc-suc}
 use lib.ListN.{length}
+use Rattle.laws.specs.Ascii.{lineFeed, space}
+use Rattle.laws.specs.Decimals.{isDigit}
 use Rattle.laws.specs.Picks.{pick}
 use Rattle.laws.specs.Tests.{le-leb, lt-leb}
 use Rattle.text.specs.declared.reading.Line.{Line}
@@ -19,7 +21,7 @@ use Rattle.text.specs.declared.reading.Line.the-variants.{Words, Tokens,
 use Rattle.text.specs.declared.reading.Phase.{Phase}
 use Rattle.text.specs.declared.reading.Phase.the-variants.{Fresh, Number, Space, Bad, Done}
 use Rattle.text.specs.declared.reading.State.{State}
-use Rattle.text.specs.Readings.{lineFeed, space, isDigit, both, atMost}
+use Rattle.text.specs.Readings.{both, atMost}
 use Rattle.text.specs.Feeding.{Held, within, inPhase, started, lineEnded, opened, longer, counted, limit, full, kept, followed, ended, fedIn, fed, fedAll}
 use Rattle.text.specs.Feeding.{ended-full, ended-kept, fed-fresh, fed-space, fed-longer, fed-ended, fed-in, bad-stays}
 use Rattle.text.specs.LineRead.{Kind, digit, gap, other, kind, numbersAfter}

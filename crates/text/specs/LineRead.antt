@@ -11,12 +11,13 @@ use Prim.Native.Nat.{ℕ, _+_, _-_, _*_, _≤_, _<_}
 use native.Mathlib.Nat.{zero-add}
 use native.Mathlib.Omega.{arith}
 use lib.Dec.{leb, eqb, leb·zero}
+use Rattle.laws.specs.Ascii.{space}
+use Rattle.laws.specs.Decimals.{isDigit, allDigits, valueFrom, digit-range}
 use Rattle.laws.specs.Picks.{pick}
 use Rattle.laws.specs.Tests.{eqb-true, leb-true, leb-false, lt-leb, le-leb}
 use Rattle.text.specs.declared.reading.Phase.{Phase}
 use Rattle.text.specs.declared.reading.Phase.the-variants.{Fresh, Number, Space, Bad, Done}
-use Rattle.text.specs.ReadingLaws.{digit-range}
-use Rattle.text.specs.Readings.{space, isDigit, allDigits, divided, partsOf, valueFrom, numberFrom, both, numbersOf, atMost, lineOf}
+use Rattle.text.specs.Readings.{divided, partsOf, numberFrom, both, numbersOf, atMost, lineOf}
 
 -- a byte of a line is a digit, a space, or has no place there
 pub data Kind (byte : ℕ) : Type 0 where

@@ -1,9 +1,9 @@
--- Laws of what a text says: line by line, after its third line feed, and how many numbers there can be.
+-- Laws of what a text says: a number, line by line, after its third line feed, and how many numbers there can be.
 -- Document 01, "Sample rows"; the sentences stand in Readings.
--- Rests on Readings.
+-- Rests on Readings, and on laws' Decimals.
 --
--- Main statements: after-third (what follows the third line feed decides nothing); bad-first, bad-second, bad-third, good-third;
--- read-limited (what is read has no more numbers than there may be).
+-- Main statements: decimal-read (a number in decimal notation is read as that number); after-third (what follows the third line feed
+-- decides nothing); bad-first, bad-second, bad-third, good-third; read-limited (what is read has no more numbers than there may be).
 use mathlib.Core.Path.{_≡_, refl, ap, _∙_}
 use mathlib.Core.Bool.{Bool, true, false}
 use mathlib.Core.List.{List, [], _∷_, _++_}
@@ -12,15 +12,20 @@ use Prim.Native.Nat.{ℕ, _≤_, _<_}
 use native.Mathlib.Omega.{arith}
 use lib.Dec.{leb, eqb}
 use lib.ListN.{length, getElem?}
+use Rattle.laws.specs.Ascii.{lineFeed}
+use Rattle.laws.specs.Decimals.{allDigits, valueFrom, decimal, decimal-some, decimal-digits, decimal-value}
 use Rattle.laws.specs.Picks.{pick}
-use Rattle.laws.specs.Tests.{and-both, leb-true}
-use Rattle.text.specs.Readings.{lineFeed, isDigit, divided, linesOf, partsOf, numbersOf, atMost, presentLine, goodLine, mostWords}
+use Rattle.laws.specs.Tests.{leb-true, le-leb}
+use Rattle.text.specs.Readings.{divided, linesOf, partsOf, numberOf, numbersOf, atMost, presentLine, goodLine, mostWords}
 use Rattle.text.specs.Readings.{mostTokens, mostCuts, lines, badLine, readLines, readText}
 
-pub digit-range : (byte : ℕ) → isDigit byte ≡ true → (48 ≤ byte) × (byte ≤ 57)
-digit-range byte e =
-    let r = and-both (leb 48 byte) (leb byte 57) e in
-    (leb-true 48 byte (r .0), leb-true byte 57 (r .1))
+-- what is written in decimal notation is read
+pub decimal-read : (v : ℕ) → v ≤ 65535 → numberOf (decimal v) ≡ some v
+decimal-read v h = go (decimal v) (decimal-some v) (decimal-digits v) (decimal-value v)
+  where
+    go : (bytes : List ℕ) → 0 < length bytes → allDigits bytes ≡ true → valueFrom 0 bytes ≡ v → numberOf bytes ≡ some v
+    go [] l d e = absurd (omega arith)
+    go (byte ∷ bytes) l d e = rw (d, e, le-leb v 65535 h)
 
 -- the reading, line by line
 module _ (text : List (List ℕ)) where

@@ -4,26 +4,18 @@
 -- other character or number above 65,535 gives `text L`, L the first bad line of 1 to 3, before anything is loaded. A line without its line
 -- feed is missing. Its own buffers hold 1,024 tokens, 2,564 grammar words and 64 cuts; longer lines give `text L` too."
 -- A text is the list of all its bytes. Nothing here knows of pieces or of a state.
--- Rests on nothing.
+-- Rests on laws' Ascii and Decimals: the bytes that part a text, and what digits stand for.
 --
 -- Main definitions: linesOf, partsOf, numberOf, lineOf, goodLine, Reading, readText.
 use mathlib.Core.Bool.{Bool, true, false, _&&_}
 use mathlib.Core.List.{List, [], _∷_}
 use mathlib.Core.Option.{Option, none, some}
-use Prim.Native.Nat.{ℕ, _+_, _-_, _*_}
+use Prim.Native.Nat.{ℕ}
 use lib.Dec.{leb, eqb}
 use lib.ListN.{length, getElem?}
+use Rattle.laws.specs.Ascii.{lineFeed, space}
+use Rattle.laws.specs.Decimals.{allDigits, valueFrom}
 use Rattle.laws.specs.Picks.{pick}
-
-abbrev pub lineFeed : ℕ
-lineFeed = 10
-
-abbrev pub space : ℕ
-space = 32
-
--- the bytes of 0 to 9
-abbrev pub isDigit : ℕ → Bool
-isDigit byte = leb 48 byte && leb byte 57
 
 -- where bytes are divided one more part starts in front; any other byte stands at the front of the first part, if there is one
 abbrev pub divided : Bool → ℕ → List (List ℕ) → List (List ℕ)
@@ -40,15 +32,6 @@ linesOf (byte ∷ text) = divided (eqb byte lineFeed) byte (linesOf text)
 abbrev pub partsOf : List ℕ → List (List ℕ)
 partsOf [] = [] ∷ []
 partsOf (byte ∷ line) = divided (eqb byte space) byte (partsOf line)
-
--- what digits stand for, in decimal notation, read on from the value of those before them
-abbrev pub valueFrom : ℕ → List ℕ → ℕ
-valueFrom value [] = value
-valueFrom value (digit ∷ digits) = valueFrom (value * 10 + (digit - 48)) digits
-
-abbrev pub allDigits : List ℕ → Bool
-allDigits [] = true
-allDigits (byte ∷ bytes) = isDigit byte && allDigits bytes
 
 -- all digits, and the value at most 65,535
 abbrev pub numberFrom : ℕ → List ℕ → Option ℕ

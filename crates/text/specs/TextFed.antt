@@ -17,6 +17,7 @@ use native.Mathlib.Omega.{arith}
 use lib.Dec.{eqb}
 use lib.ListN.{length, drop, set}
 use lib.Seq.{sets, sets-eq}
+use Rattle.laws.specs.Ascii.{lineFeed}
 use Rattle.laws.specs.Parts.{flat}
 use Rattle.laws.specs.Tests.{eqb-true}
 use Rattle.text.specs.declared.reading.Line.{Line}
@@ -27,7 +28,7 @@ use Rattle.text.specs.declared.reading.State.{State}
 use Rattle.text.specs.declared.reading.TextAnswer.{TextAnswer}
 use Rattle.text.specs.declared.reading.TextAnswer.the-variants.{More, BadLine, Lines}
 use Rattle.text.specs.ReadingLaws.{bad-first, bad-second, bad-third, good-third, read-limited}
-use Rattle.text.specs.Readings.{lineFeed, linesOf, lineOf, atMost, mostWords, mostTokens, mostCuts, Reading, lines, badLine, readLines, readText}
+use Rattle.text.specs.Readings.{linesOf, lineOf, atMost, mostWords, mostTokens, mostCuts, Reading, lines, badLine, readLines, readText}
 use Rattle.text.specs.Feeding.{Held, held, start, fedAll, fed-append, bad-stays, done-stays, lineNumber, answerIn, answerOf, finishIn, finishOf}
 use Rattle.text.specs.LineRead.{numbersAfter, line-is}
 use Rattle.text.specs.LineFed.{NoFeed, heldIn, lineDone, keptAll, room, Broken, Ended, line-fed, NotDone, Unfinished, unfinished-stays}

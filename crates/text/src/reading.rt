@@ -2,7 +2,8 @@
 // A state goes in by value and comes back after each byte; the numbers go to lent buffers. What a whole text says is `readText`.
 ghost use mathlib.Core.Path.{_≡_};
 ghost use mathlib.Core.Bool.{true, false};
-ghost use Rattle.text.specs.Readings.{isDigit, readText};
+ghost use Rattle.laws.specs.Decimals.{isDigit};
+ghost use Rattle.text.specs.Readings.{readText};
 ghost use Rattle.text.specs.Feeding.{start, inPhase, started, lineEnded, opened, longer, full, held, kept, followed, ended, fed, fedAll, lineNumber, answerOf, finishOf};
 ghost use Rattle.text.specs.TextFed.{answerFor, TextHeld};
 

@@ -19,22 +19,19 @@ fn next_budget() -> u32 {
     4294967295
 }
 
-// Each chunk is run until it rests.
-fn run_all(words: &[u16], matrix: &[u8], area: &mut [u16], chunks: usize) {
+// The schedule of the program `rows`: each chunk is run until it rests, then chunk 0 is joined rightwards, and run until it rests
+// after each join.
+fn read_row(words: &[u16], matrix: &[u8], area: &mut [u16], chunks: usize) {
     let mut c = 0;
     while c < chunks {
         reader::run(words, matrix, area, c, 4294967295);
         c += 1;
     }
-}
-
-// Chunk 0 is joined rightwards, and run until it rests after each join.
-fn join_all(words: &[u16], matrix: &[u8], area: &mut [u16], chunks: usize) {
-    let mut c = 1;
-    while c < chunks {
+    let mut joined = 1;
+    while joined < chunks {
         reader::join(words, matrix, area, 0);
         reader::run(words, matrix, area, 0, 4294967295);
-        c += 1;
+        joined += 1;
     }
 }
 
@@ -49,7 +46,7 @@ fn area_call(
     area: &mut [u16],
 ) -> Told {
     if call == 1 {
-        return shown::told_answer(area::start(words, matrix, tokens, cuts, area));
+        return shown::told_answer(start::start(words, matrix, tokens, cuts, area));
     }
     if call == 2 {
         return shown::told_answer(reader::step(words, matrix, area, chunk));
@@ -60,8 +57,7 @@ fn area_call(
     if call == 4 {
         return shown::told_answer(reader::join(words, matrix, area, chunk));
     }
-    run_all(words, matrix, area, chunk);
-    join_all(words, matrix, area, chunk);
+    read_row(words, matrix, area, chunk);
     shown::told_answer(Answer::Done)
 }
 
@@ -81,7 +77,7 @@ fn report_call(
         let it = shown::told_report(report::report(words, matrix, area, out));
         return shown::tell(before, it, shown::sum_of_words(out), aloud);
     }
-    let it = shown::told_report(reader::parse(words, tokens, area, out));
+    let it = shown::told_report(parse::parse(words, tokens, area, out));
     let sum = shown::folded(shown::sum_of_words(area), shown::sum_of_words(out));
     shown::tell(before, it, sum, aloud)
 }

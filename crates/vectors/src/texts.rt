@@ -5,7 +5,6 @@ use libc::STDOUT_FILENO;
 use text::reading;
 use text::reading::State;
 use text::reading::TextAnswer;
-use text::writing;
 ghost use Prim.Native.Nat.{_<_, _≤_};
 
 // The sum of a buffer's first numbers.
@@ -101,15 +100,15 @@ fn put(line: u32, bytes: &mut [u8], at: usize) -> usize {
     let b = input::next_wide();
     let c = input::next_wide();
     if line == 0 {
-        return writing::put_parse(bytes, at, a, b, c);
+        return lines::put_parse(bytes, at, a, b, c);
     }
     if line == 1 {
-        return writing::put_entry(bytes, at, a, b, c);
+        return lines::put_entry(bytes, at, a, b, c);
     }
     if line == 2 {
-        return writing::put_refused(bytes, at, a, b);
+        return lines::put_refused(bytes, at, a, b);
     }
-    writing::put_text(bytes, at, a)
+    lines::put_text(bytes, at, a)
 }
 
 // Lines of the answer, from a place of a run of bytes on: where each ends, and the run.

@@ -5,11 +5,13 @@ use native.Mathlib.Omega.{arith}
 use Prim.Native.Nat.{_≤_}
 use lib.ListN.{length}
 use Rattle.language.specs.Words.{countT, countN}
-use Rattle.area.specs.Shape.{walkFits, grammarInShape, ruleC}
+use Rattle.matrix.specs.GrammarShape.{grammarInShape}
+use Rattle.matrix.specs.WordsOfShape.{headed}
+use Rattle.matrix.specs.EndMarkOfShape.{grammar-in-shape}
+use Rattle.area.specs.Shape.{walkFits, ruleC}
 use Rattle.area.specs.ShapeCode.{Sized}
-use Rattle.area.specs.EndMarkOfShape.{grammar-in-shape}
 use Rattle.area.proofs.Joined.{kept-both}
-use Rattle.area.proofs.ShapeLaw.{headed, sized-of, shape-left, shape-kept}
+use Rattle.area.proofs.ShapeLaw.{sized-of, shape-left, shape-kept}
 use Rattle.area.proofs.in_shape.Statement.{statement}
 use Rattle.area.proofs.in_shape.Tie as tie
 

@@ -1,7 +1,8 @@
--- `entry_start` by EntryStart, from the tests that led to each return.
+-- `entry_start` by EntryStart, from the tests that led to each return (report's EntryTests).
 use Prim.Native.Nat.{_+_, _*_}
 use native.Mathlib.Omega.{arith}
-use Rattle.grugalash.proofs.EntryStart.{inside, outside, stands, stands-not}
+use Rattle.report.specs.EntryTests.{inside, outside}
+use Rattle.grugalash.proofs.EntryStart.{stands, stands-not}
 use borrow.Author.Needs.{needs}
 use Rattle.grugalash.proofs.entry_start.Statement.{statement}
 use Rattle.grugalash.proofs.entry_start.Tie as tie

@@ -1,5 +1,5 @@
 -- The part of `entry_tokens`: how many tokens it has, and where it starts.
-use mathlib.Core.Path.{ap, _∙_}
+use mathlib.Core.Path.{ap}
 use lib.ListN.{length}
 use borrow.Author.Needs.{needs}
 use Rattle.grugalash.proofs.grugalash_entry_tokens.Statement.{statement}

@@ -22,8 +22,13 @@ same-length c = search needs
 
 returns : tie.Need-returns
 returns c =
-    let e = c .before .before .before .before .before .report .ensures .0 in
-    (c .report-number .ensures ∙ ap reportNumber e, (c .before .before .report-value .ensures ∙ ap reportValue e, (c .before .report-moves .ensures ∙ ap reportMoves e, (c .before .before .before .before .before .report .ensures .1))))
+    let e = c .before .before .before .before .before .report .ensures .0 in (
+      c .report-number .ensures ∙ ap reportNumber e,
+      (
+        c .before .before .report-value .ensures ∙ ap reportValue e,
+        (c .before .report-moves .ensures ∙ ap reportMoves e, (c .before .before .before .before .before .report .ensures .1)),
+      ),
+    )
 
 pub grugalash-report-spec : {M : Type 1} → statement M
 grugalash-report-spec =

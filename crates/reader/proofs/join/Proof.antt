@@ -8,11 +8,11 @@ use borrow.Author.Needs.{needs}
 use borrow.Author.Tests.{not-true, not-false}
 use Rattle.laws.specs.Tests.{and-both}
 use Rattle.area.specs.Shape.{inShape}
-use Rattle.reader.specs.declared.moves.Next.the-variants.{Chunk, NoChunk}
-use Rattle.reader.specs.ReadWords.{nextOf, liveAfter}
-use Rattle.reader.specs.Moved.{liveIn, restsIn}
-use Rattle.reader.specs.CallLaws.{there, table-there, live-true}
-use Rattle.reader.specs.JoinCalls.{follows, right-listed, join-bad, join-gone, join-alone, join-moving, join-can, join-made}
+use Rattle.moving.specs.declared.Next.the-variants.{Chunk, NoChunk}
+use Rattle.moving.specs.ReadWords.{nextOf, liveAfter}
+use Rattle.moving.specs.Moved.{liveIn, restsIn}
+use Rattle.moving.specs.CallLaws.{there, table-there, live-true}
+use Rattle.moving.specs.JoinCalls.{follows, right-listed, join-bad, join-gone, join-alone, join-moving, join-can, join-made}
 use Rattle.reader.proofs.join.Statement.{statement}
 use Rattle.reader.proofs.join.Tie as tie
 
@@ -59,18 +59,25 @@ enum-known-d c = search needs
 
 at-rest-requires : tie.Need-at-rest-requires
 at-rest-requires c κs =
-    let a = c .before .before .before .before .before .before .before .before .before .before .before .before .args in
+    let s = c .before .before .before .before .before .before .before .before .before .before .before .before in
+    let a = s .args in
     let low : getD (a .area .now) 2 0 < 65536 = omega (arith, c .before .before .before .before .before .before .before .before .before .slice-known .given 2) in
-    let shape : inShape (a .words .now) (a .matrix .now) (a .area .now) ≡ true = sym (c .before .before .before .before .before .before .before .in-shape .ensures) ∙ not-false _ (c .before .before .before .before .before .before .if1 .left) in
-    let alive : liveIn (a .area .now) (a .chunk) ≡ true = sym (c .before .before .before .before .before .is-live .ensures) ∙ not-false _ (c .before .before .before .before .if2 .left) in
+    let shape : inShape (a .words .now) (a .matrix .now) (a .area .now) ≡ true
+    = sym (c .before .before .before .before .before .before .before .in-shape .ensures) ∙ not-false _ (c .before .before .before .before .before .before .if1 .left) in
+    let alive : liveIn (a .area .now) (a .chunk) ≡ true
+    = sym (c .before .before .before .before .before .is-live .ensures) ∙ not-false _ (c .before .before .before .before .if2 .left) in
     (live-true (a .area .now) (a .chunk) alive .0, table-there (there (a .words .now) (a .matrix .now) (a .area .now) (a .chunk) low shape) .1)
 
 at-rest-requires-2 : tie.Need-at-rest-requires-2
 at-rest-requires-2 c κs =
-    let a = c .before .before .before .before .before .before .before .before .before .before .before .before .before .args in
+    let s = c .before .before .before .before .before .before .before .before .before .before .before .before .before in
+    let a = s .args in
     let low : getD (a .area .now) 2 0 < 65536 = omega (arith, c .before .before .before .before .before .before .before .before .before .before .slice-known .given 2) in
-    let shape : inShape (a .words .now) (a .matrix .now) (a .area .now) ≡ true = sym (c .before .before .before .before .before .before .before .before .in-shape .ensures) ∙ not-false _ (c .before .before .before .before .before .before .before .if1 .left) in
-    let alive : liveIn (a .area .now) (a .chunk) ≡ true = sym (c .before .before .before .before .before .before .is-live .ensures) ∙ not-false _ (c .before .before .before .before .before .if2 .left) in
+    let shape : inShape (a .words .now) (a .matrix .now) (a .area .now) ≡ true
+    = sym (c .before .before .before .before .before .before .before .before .in-shape .ensures)
+    ∙ not-false _ (c .before .before .before .before .before .before .before .if1 .left) in
+    let alive : liveIn (a .area .now) (a .chunk) ≡ true
+    = sym (c .before .before .before .before .before .before .is-live .ensures) ∙ not-false _ (c .before .before .before .before .before .if2 .left) in
     let d = c .before .before .d .given .0 .0 in
     let follow : Chunk d ≡ nextOf (liveAfter (a .area .now) (a .chunk)) = sym (c .before .before .d .given .1) ∙ c .before .before .before .before .next-live .ensures in
     let h = there (a .words .now) (a .matrix .now) (a .area .now) (a .chunk) low shape in
@@ -78,13 +85,25 @@ at-rest-requires-2 c κs =
 
 join-chunks-requires : tie.Need-join-chunks-requires
 join-chunks-requires c κs =
-    let a = c .before .before .before .before .before .before .before .before .before .before .before .before .before .before .before .before .args in
-    let low : getD (a .area .now) 2 0 < 65536 = omega (arith, c .before .before .before .before .before .before .before .before .before .before .before .before .before .slice-known .given 2) in
-    let shape : inShape (a .words .now) (a .matrix .now) (a .area .now) ≡ true = sym (c .before .before .before .before .before .before .before .before .before .before .before .in-shape .ensures) ∙ not-false _ (c .before .before .before .before .before .before .before .before .before .before .if1 .left) in
-    let alive : liveIn (a .area .now) (a .chunk) ≡ true = sym (c .before .before .before .before .before .before .before .before .before .is-live .ensures) ∙ not-false _ (c .before .before .before .before .before .before .before .before .if2 .left) in
+    let s = c .before .before .before .before .before .before .before .before .before .before .before .before .before .before .before .before in
+    let a = s .args in
+    let low : getD (a .area .now) 2 0 < 65536 = omega (
+      arith,
+      c .before .before .before .before .before .before .before .before .before .before .before .before .before .slice-known .given 2,
+    ) in
+    let shape : inShape (a .words .now) (a .matrix .now) (a .area .now) ≡ true
+    = sym (c .before .before .before .before .before .before .before .before .before .before .before .in-shape .ensures)
+    ∙ not-false _ (c .before .before .before .before .before .before .before .before .before .before .if1 .left) in
+    let alive : liveIn (a .area .now) (a .chunk) ≡ true
+    = sym (c .before .before .before .before .before .before .before .before .before .is-live .ensures)
+    ∙ not-false _ (c .before .before .before .before .before .before .before .before .if2 .left) in
     let d = c .before .before .before .before .before .d .given .0 .0 in
-    let follow : Chunk d ≡ nextOf (liveAfter (a .area .now) (a .chunk)) = sym (c .before .before .before .before .before .d .given .1) ∙ c .before .before .before .before .before .before .before .next-live .ensures in
-    let both = and-both (restsIn (a .area .now) (a .chunk)) (restsIn (a .area .now) d) (rw (c .before .before .before .at-rest .ensures, c .before .before .at-rest2 .ensures) at (c .before .if3 .taken)) in
+    let follow : Chunk d ≡ nextOf (liveAfter (a .area .now) (a .chunk))
+    = sym (c .before .before .before .before .before .d .given .1) ∙ c .before .before .before .before .before .before .before .next-live .ensures in
+    let both = and-both (restsIn (a .area .now) (a .chunk)) (restsIn (a .area .now) d) (rw (
+      c .before .before .before .at-rest .ensures,
+      c .before .before .at-rest2 .ensures,
+    ) at (c .before .if3 .taken)) in
     join-can (a .words .now) (a .matrix .now) (a .area .now) (a .chunk) low shape alive d follow (both .0) (both .1)
 
 same-length-3 : tie.Need-same-length-3
@@ -92,13 +111,26 @@ same-length-3 c = search needs
 
 returns-3 : tie.Need-returns-3
 returns-3 c =
-    let a = c .before .before .before .before .before .before .before .before .before .before .before .before .before .before .before .before .before .before .before .args in
-    let low : getD (a .area .now) 2 0 < 65536 = omega (arith, c .before .before .before .before .before .before .before .before .before .before .before .before .before .before .before .before .slice-known .given 2) in
-    let shape : inShape (a .words .now) (a .matrix .now) (a .area .now) ≡ true = sym (c .before .before .before .before .before .before .before .before .before .before .before .before .before .before .in-shape .ensures) ∙ not-false _ (c .before .before .before .before .before .before .before .before .before .before .before .before .before .if1 .left) in
-    let alive : liveIn (a .area .now) (a .chunk) ≡ true = sym (c .before .before .before .before .before .before .before .before .before .before .before .before .is-live .ensures) ∙ not-false _ (c .before .before .before .before .before .before .before .before .before .before .before .if2 .left) in
+    let s = c .before .before .before .before .before .before .before .before .before .before .before .before .before .before .before .before .before .before .before in
+    let a = s .args in
+    let low : getD (a .area .now) 2 0 < 65536 = omega (
+      arith,
+      c .before .before .before .before .before .before .before .before .before .before .before .before .before .before .before .before .slice-known .given 2,
+    ) in
+    let shape : inShape (a .words .now) (a .matrix .now) (a .area .now) ≡ true
+    = sym (c .before .before .before .before .before .before .before .before .before .before .before .before .before .before .in-shape .ensures)
+    ∙ not-false _ (c .before .before .before .before .before .before .before .before .before .before .before .before .before .if1 .left) in
+    let alive : liveIn (a .area .now) (a .chunk) ≡ true
+    = sym (c .before .before .before .before .before .before .before .before .before .before .before .before .is-live .ensures)
+    ∙ not-false _ (c .before .before .before .before .before .before .before .before .before .before .before .if2 .left) in
     let d = c .before .before .before .before .before .before .before .before .d .given .0 .0 in
-    let follow : Chunk d ≡ nextOf (liveAfter (a .area .now) (a .chunk)) = sym (c .before .before .before .before .before .before .before .before .d .given .1) ∙ c .before .before .before .before .before .before .before .before .before .before .next-live .ensures in
-    let both = and-both (restsIn (a .area .now) (a .chunk)) (restsIn (a .area .now) d) (rw (c .before .before .before .before .before .before .at-rest .ensures, c .before .before .before .before .before .at-rest2 .ensures) at (c .before .before .before .before .if3 .taken)) in
+    let follow : Chunk d ≡ nextOf (liveAfter (a .area .now) (a .chunk))
+    = sym (c .before .before .before .before .before .before .before .before .d .given .1)
+    ∙ c .before .before .before .before .before .before .before .before .before .before .next-live .ensures in
+    let both = and-both (restsIn (a .area .now) (a .chunk)) (restsIn (a .area .now) d) (rw (
+      c .before .before .before .before .before .before .at-rest .ensures,
+      c .before .before .before .before .before .at-rest2 .ensures,
+    ) at (c .before .before .before .before .if3 .taken)) in
     let made = join-made (a .words .now) (a .matrix .now) (a .area .now) (a .chunk) low shape alive d follow (both .0) (both .1) in
     (made .0, c .before .before .join-chunks .ensures ∙ made .1)
 
@@ -110,12 +142,21 @@ same-length-4 c = search needs
 
 returns-4 : tie.Need-returns-4
 returns-4 c =
-    let a = c .before .before .before .before .before .before .before .before .before .before .before .before .before .before .before .args in
-    let low : getD (a .area .now) 2 0 < 65536 = omega (arith, c .before .before .before .before .before .before .before .before .before .before .before .before .slice-known .given 2) in
-    let shape : inShape (a .words .now) (a .matrix .now) (a .area .now) ≡ true = sym (c .before .before .before .before .before .before .before .before .before .before .in-shape .ensures) ∙ not-false _ (c .before .before .before .before .before .before .before .before .before .if1 .left) in
-    let alive : liveIn (a .area .now) (a .chunk) ≡ true = sym (c .before .before .before .before .before .before .before .before .is-live .ensures) ∙ not-false _ (c .before .before .before .before .before .before .before .if2 .left) in
+    let s = c .before .before .before .before .before .before .before .before .before .before .before .before .before .before .before in
+    let a = s .args in
+    let low : getD (a .area .now) 2 0 < 65536 = omega (
+      arith,
+      c .before .before .before .before .before .before .before .before .before .before .before .before .slice-known .given 2,
+    ) in
+    let shape : inShape (a .words .now) (a .matrix .now) (a .area .now) ≡ true
+    = sym (c .before .before .before .before .before .before .before .before .before .before .in-shape .ensures)
+    ∙ not-false _ (c .before .before .before .before .before .before .before .before .before .if1 .left) in
+    let alive : liveIn (a .area .now) (a .chunk) ≡ true
+    = sym (c .before .before .before .before .before .before .before .before .is-live .ensures)
+    ∙ not-false _ (c .before .before .before .before .before .before .before .if2 .left) in
     let d = c .before .before .before .before .d .given .0 .0 in
-    let follow : Chunk d ≡ nextOf (liveAfter (a .area .now) (a .chunk)) = sym (c .before .before .before .before .d .given .1) ∙ c .before .before .before .before .before .before .next-live .ensures in
+    let follow : Chunk d ≡ nextOf (liveAfter (a .area .now) (a .chunk))
+    = sym (c .before .before .before .before .d .given .1) ∙ c .before .before .before .before .before .before .next-live .ensures in
     let moving = rw (c .before .before .at-rest .ensures, c .before .at-rest2 .ensures) at (c .if3 .left) in
     join-moving (a .words .now) (a .matrix .now) (a .area .now) (a .chunk) low shape alive d follow moving
 
@@ -124,9 +165,11 @@ same-length-5 c = search needs
 
 returns-5 : tie.Need-returns-5
 returns-5 c =
-    let a = c .before .before .before .before .before .before .before .before .before .before .before .args in
+    let s = c .before .before .before .before .before .before .before .before .before .before .before in
+    let a = s .args in
     let low : getD (a .area .now) 2 0 < 65536 = omega (arith, c .before .before .before .before .before .before .before .before .slice-known .given 2) in
-    let shape : inShape (a .words .now) (a .matrix .now) (a .area .now) ≡ true = sym (c .before .before .before .before .before .before .in-shape .ensures) ∙ not-false _ (c .before .before .before .before .before .if1 .left) in
+    let shape : inShape (a .words .now) (a .matrix .now) (a .area .now) ≡ true
+    = sym (c .before .before .before .before .before .before .in-shape .ensures) ∙ not-false _ (c .before .before .before .before .before .if1 .left) in
     let alive : liveIn (a .area .now) (a .chunk) ≡ true = sym (c .before .before .before .before .is-live .ensures) ∙ not-false _ (c .before .before .before .if2 .left) in
     let alone : NoChunk ≡ nextOf (liveAfter (a .area .now) (a .chunk)) = sym (c .enum-told .given .1) ∙ c .before .before .next-live .ensures in
     join-alone (a .words .now) (a .matrix .now) (a .area .now) (a .chunk) low shape alive alone

@@ -7,9 +7,9 @@ use lib.ListN.{getD}
 use borrow.Author.Needs.{needs}
 use borrow.Author.Tests.{not-true, not-false}
 use Rattle.area.specs.Shape.{inShape}
-use Rattle.reader.specs.Moved.{liveIn, restsIn}
-use Rattle.reader.specs.CallLaws.{there, table-there, live-true}
-use Rattle.reader.specs.RunMoves.{runnable, run-bad, run-gone, run-rests, run-moved}
+use Rattle.moving.specs.Moved.{liveIn, restsIn}
+use Rattle.moving.specs.CallLaws.{there, table-there, live-true}
+use Rattle.moving.specs.RunMoves.{runnable, run-bad, run-gone, run-rests, run-moved}
 use Rattle.reader.proofs.run.Statement.{statement}
 use Rattle.reader.proofs.run.Tie as tie
 
@@ -37,17 +37,21 @@ same-length-2 c = search needs
 
 returns-2 : tie.Need-returns-2
 returns-2 c =
-    let a = c .before .before .before .before .before .before .before .before .before .args in
+    let s = c .before .before .before .before .before .before .before .before .before in
+    let a = s .args in
     let low : getD (a .area .now) 2 0 < 65536 = omega (arith, c .before .before .before .before .before .before .slice-known .given 2) in
-    let shape : inShape (a .words .now) (a .matrix .now) (a .area .now) ≡ true = sym (c .before .before .before .before .in-shape .ensures) ∙ not-false _ (c .before .before .before .if1 .left) in
+    let shape : inShape (a .words .now) (a .matrix .now) (a .area .now) ≡ true
+    = sym (c .before .before .before .before .in-shape .ensures) ∙ not-false _ (c .before .before .before .if1 .left) in
     let gone : liveIn (a .area .now) (a .chunk) ≡ false = sym (c .before .is-live .ensures) ∙ not-true _ (c .if2 .taken) in
     run-gone (a .words .now) (a .matrix .now) (a .area .now) (a .chunk) (a .budget) low shape gone
 
 at-rest-requires : tie.Need-at-rest-requires
 at-rest-requires c κs =
-    let a = c .before .before .before .before .before .before .before .before .before .before .args in
+    let s = c .before .before .before .before .before .before .before .before .before .before in
+    let a = s .args in
     let low : getD (a .area .now) 2 0 < 65536 = omega (arith, c .before .before .before .before .before .before .before .slice-known .given 2) in
-    let shape : inShape (a .words .now) (a .matrix .now) (a .area .now) ≡ true = sym (c .before .before .before .before .before .in-shape .ensures) ∙ not-false _ (c .before .before .before .before .if1 .left) in
+    let shape : inShape (a .words .now) (a .matrix .now) (a .area .now) ≡ true
+    = sym (c .before .before .before .before .before .in-shape .ensures) ∙ not-false _ (c .before .before .before .before .if1 .left) in
     let alive : liveIn (a .area .now) (a .chunk) ≡ true = sym (c .before .before .is-live .ensures) ∙ not-false _ (c .before .if2 .left) in
     (live-true (a .area .now) (a .chunk) alive .0, table-there (there (a .words .now) (a .matrix .now) (a .area .now) (a .chunk) low shape) .1)
 
@@ -56,19 +60,25 @@ same-length-3 c = search needs
 
 returns-3 : tie.Need-returns-3
 returns-3 c =
-    let a = c .before .before .before .before .before .before .before .before .before .before .before .before .args in
+    let s = c .before .before .before .before .before .before .before .before .before .before .before .before in
+    let a = s .args in
     let low : getD (a .area .now) 2 0 < 65536 = omega (arith, c .before .before .before .before .before .before .before .before .before .slice-known .given 2) in
-    let shape : inShape (a .words .now) (a .matrix .now) (a .area .now) ≡ true = sym (c .before .before .before .before .before .before .before .in-shape .ensures) ∙ not-false _ (c .before .before .before .before .before .before .if1 .left) in
+    let shape : inShape (a .words .now) (a .matrix .now) (a .area .now) ≡ true
+    = sym (c .before .before .before .before .before .before .before .in-shape .ensures) ∙ not-false _ (c .before .before .before .before .before .before .if1 .left) in
     let alive : liveIn (a .area .now) (a .chunk) ≡ true = sym (c .before .before .before .before .is-live .ensures) ∙ not-false _ (c .before .before .before .if2 .left) in
     let resting : restsIn (a .area .now) (a .chunk) ≡ true = sym (c .before .at-rest .ensures) ∙ c .if3 .taken in
     run-rests (a .words .now) (a .matrix .now) (a .area .now) (a .chunk) (a .budget) low shape alive resting
 
 make-moves-requires : tie.Need-make-moves-requires
 make-moves-requires c κs =
-    let a = c .before .before .before .before .before .before .before .before .before .before .before .before .before .args in
+    let s = c .before .before .before .before .before .before .before .before .before .before .before .before .before in
+    let a = s .args in
     let low : getD (a .area .now) 2 0 < 65536 = omega (arith, c .before .before .before .before .before .before .before .before .before .before .slice-known .given 2) in
-    let shape : inShape (a .words .now) (a .matrix .now) (a .area .now) ≡ true = sym (c .before .before .before .before .before .before .before .before .in-shape .ensures) ∙ not-false _ (c .before .before .before .before .before .before .before .if1 .left) in
-    let alive : liveIn (a .area .now) (a .chunk) ≡ true = sym (c .before .before .before .before .before .is-live .ensures) ∙ not-false _ (c .before .before .before .before .if2 .left) in
+    let shape : inShape (a .words .now) (a .matrix .now) (a .area .now) ≡ true
+    = sym (c .before .before .before .before .before .before .before .before .in-shape .ensures)
+    ∙ not-false _ (c .before .before .before .before .before .before .before .if1 .left) in
+    let alive : liveIn (a .area .now) (a .chunk) ≡ true
+    = sym (c .before .before .before .before .before .is-live .ensures) ∙ not-false _ (c .before .before .before .before .if2 .left) in
     runnable (a .words .now) (a .matrix .now) (a .area .now) (a .chunk) (a .budget) low shape alive
 
 same-length-4 : tie.Need-same-length-4
@@ -76,10 +86,18 @@ same-length-4 c = search needs
 
 returns-4 : tie.Need-returns-4
 returns-4 c =
-    let a = c .before .before .before .before .before .before .before .before .before .before .before .before .before .before .before .before .args in
-    let low : getD (a .area .now) 2 0 < 65536 = omega (arith, c .before .before .before .before .before .before .before .before .before .before .before .before .before .slice-known .given 2) in
-    let shape : inShape (a .words .now) (a .matrix .now) (a .area .now) ≡ true = sym (c .before .before .before .before .before .before .before .before .before .before .before .in-shape .ensures) ∙ not-false _ (c .before .before .before .before .before .before .before .before .before .before .if1 .left) in
-    let alive : liveIn (a .area .now) (a .chunk) ≡ true = sym (c .before .before .before .before .before .before .before .before .is-live .ensures) ∙ not-false _ (c .before .before .before .before .before .before .before .if2 .left) in
+    let s = c .before .before .before .before .before .before .before .before .before .before .before .before .before .before .before .before in
+    let a = s .args in
+    let low : getD (a .area .now) 2 0 < 65536 = omega (
+      arith,
+      c .before .before .before .before .before .before .before .before .before .before .before .before .before .slice-known .given 2,
+    ) in
+    let shape : inShape (a .words .now) (a .matrix .now) (a .area .now) ≡ true
+    = sym (c .before .before .before .before .before .before .before .before .before .before .before .in-shape .ensures)
+    ∙ not-false _ (c .before .before .before .before .before .before .before .before .before .before .if1 .left) in
+    let alive : liveIn (a .area .now) (a .chunk) ≡ true
+    = sym (c .before .before .before .before .before .before .before .before .is-live .ensures)
+    ∙ not-false _ (c .before .before .before .before .before .before .before .if2 .left) in
     let runs : restsIn (a .area .now) (a .chunk) ≡ false = sym (c .before .before .before .before .before .at-rest .ensures) ∙ c .before .before .before .before .if3 .left in
     run-moved (a .words .now) (a .matrix .now) (a .area .now) (a .chunk) (a .budget) low shape alive runs (c .before .before .make-moves .ensures)
 

@@ -1,8 +1,10 @@
--- `report::entry_tokens` meets its contract: each return by EntryLaw, from the tests that led there.
+-- `report::entry_tokens` meets its contract: each return by EntryLaw, from the tests that led there (EntryTests).
 use Prim.Native.Nat.{_+_, _*_}
 use native.Mathlib.Omega.{arith}
 use borrow.Author.Needs.{needs}
-use Rattle.report.proofs.EntryLaw.{inside, outside, stands, stands-not}
+use lib.ListN.{length}
+use Rattle.report.specs.EntryTests.{inside, outside}
+use Rattle.report.proofs.EntryLaw.{stands, stands-not}
 use Rattle.report.proofs.entry_tokens.Statement.{statement}
 use Rattle.report.proofs.entry_tokens.Tie as tie
 
@@ -47,36 +49,36 @@ slice-aggregate-result-2 c = search needs
 returns-2 : tie.Need-returns-2
 returns-2 c =
     let s = c .before .before .before .before .before .args in
-    stands-not (s .report .now) (s .entry) (s .tokens .now) (s .tokens .ptr) (λ a. outside (s .report .now) (s .entry) (s .tokens .now) (s .tokens .ptr) (c .before .if2 .taken))
+    stands-not (s .report .now) (s .entry) (s .tokens .now) (s .tokens .ptr) (λ a. outside (s .report .now) (s .entry) (length (s .tokens .now)) (c .before .if2 .taken))
 
 mul-result : tie.Need-mul-result
 mul-result c =
     let s = c .before .before .before .before .args in
-    let p = inside (s .report .now) (s .entry) (s .tokens .now) (s .tokens .ptr) (c .if2 .left) in
+    let p = inside (s .report .now) (s .entry) (length (s .tokens .now)) (c .if2 .left) in
     omega (arith, p)
 
 sub-result : tie.Need-sub-result
 sub-result c =
     let s = c .before .before .before .before .args in
-    let p = inside (s .report .now) (s .entry) (s .tokens .now) (s .tokens .ptr) (c .if2 .left) in
+    let p = inside (s .report .now) (s .entry) (length (s .tokens .now)) (c .if2 .left) in
     omega (arith, p)
 
 part-result-start : tie.Need-part-result-start
 part-result-start c =
     let s = c .before .before .before .before .args in
-    let p = inside (s .report .now) (s .entry) (s .tokens .now) (s .tokens .ptr) (c .if2 .left) in
+    let p = inside (s .report .now) (s .entry) (length (s .tokens .now)) (c .if2 .left) in
     omega (arith, p)
 
 part-result-end : tie.Need-part-result-end
 part-result-end c =
     let s = c .before .before .before .before .args in
-    let p = inside (s .report .now) (s .entry) (s .tokens .now) (s .tokens .ptr) (c .if2 .left) in
+    let p = inside (s .report .now) (s .entry) (length (s .tokens .now)) (c .if2 .left) in
     omega (arith, p)
 
 returns-3 : tie.Need-returns-3
 returns-3 c =
     let s = c .before .before .before .before .before .args in
-    let p = inside (s .report .now) (s .entry) (s .tokens .now) (s .tokens .ptr) (c .before .if2 .left) in
+    let p = inside (s .report .now) (s .entry) (length (s .tokens .now)) (c .before .if2 .left) in
     stands (s .report .now) (s .entry) (s .tokens .now) (s .tokens .ptr) (omega arith) (p .0) (p .1)
 
 pub entry-tokens-spec : {M : Type 1} → statement M

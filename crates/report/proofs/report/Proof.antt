@@ -15,14 +15,16 @@ returns c = let s = c .before .before .before .before .before .before .args in
 
 outcome-requires : tie.Need-outcome-requires
 outcome-requires c κs = let s = c .before .before .before .before .before .before .before .args in
-    ready (s .words .now) (s .matrix .now) (s .area .now) (omega (arith, c .before .before .before .before .shared-slice-known3 .given 2)) (c .before .before .in-shape .ensures) (not-false _ (c .before .if1 .left))
+    ready (s .words .now) (s .matrix .now) (s .area .now) (omega (arith, c .before .before .before .before .shared-slice-known3 .given 2))
+    (c .before .before .in-shape .ensures) (not-false _ (c .before .if1 .left))
 
 same-length : tie.Need-same-length
 same-length c = search needs
 
 returns-2 : tie.Need-returns-2
 returns-2 c = let s = c .before .before .before .before .before .before .before .before .before .before .args in
-    reported-state (s .words .now) (s .matrix .now) (s .area .now) (omega (arith, c .before .before .before .before .before .before .before .shared-slice-known3 .given 2)) (c .before .before .before .before .before .in-shape .ensures) (not-false _ (c .before .before .before .before .if1 .left)) (s .out .now) (c .before .before .outcome .ensures)
+    reported-state (s .words .now) (s .matrix .now) (s .area .now) (omega (arith, c .before .before .before .before .before .before .before .shared-slice-known3 .given 2))
+    (c .before .before .before .before .before .in-shape .ensures) (not-false _ (c .before .before .before .before .if1 .left)) (s .out .now) (c .before .before .outcome .ensures)
 
 pub report-spec : {M : Type 1} → statement M
 report-spec = tie.close (tie.spec in-shape-requires returns outcome-requires same-length returns-2)

@@ -24,7 +24,9 @@ enum-told-2 : tie.Need-enum-told-2
 enum-told-2 c = search needs
 
 write-matrix-requires : tie.Need-write-matrix-requires
-write-matrix-requires c κs = words-pass (c .before .before .before .before .before .before .args .words .now) .0 (sym (c .before .before .before .check-words .ensures) ∙ c .before .enum-told2 .given .1)
+write-matrix-requires c κs =
+    words-pass (c .before .before .before .before .before .before .args .words .now) .0
+    (sym (c .before .before .before .check-words .ensures) ∙ c .before .enum-told2 .given .1)
 
 same-length : tie.Need-same-length
 same-length c = search needs

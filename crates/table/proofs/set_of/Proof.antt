@@ -22,7 +22,7 @@ passed c = words-pass (c .before .before .before .before .args .words .now) .0 (
 
 -- and there is a nonterminal k
 below : (c : tie.Else1) → c .before .before .before .before .before .before .args .k < countN (c .before .before .before .before .before .before .args .words .now)
-below c = rw (c .before .word .ensures .0) at (c .if1 .left)
+below c = rw (c .before .word .ensures) at (c .if1 .left)
 
 check-words-requires : tie.Need-check-words-requires
 check-words-requires c κs = search needs
@@ -33,7 +33,8 @@ enum-known-refusal c = search needs
 returns : tie.Need-returns
 returns c =
     let a = c .before .before .before .before .before .args in
-    refused-set (a .words .now) (a .k) (sided (a .from-end) (grammarOf (a .words .now))) (c .before .refusal .given .0 .0) (sym (c .before .refusal .given .1) ∙ c .before .before .before .check-words .ensures)
+    refused-set (a .words .now) (a .k) (sided (a .from-end) (grammarOf (a .words .now))) (c .before .refusal .given .0 .0)
+    (sym (c .before .refusal .given .1) ∙ c .before .before .before .check-words .ensures)
 
 enum-told : tie.Need-enum-told
 enum-told c = search needs
@@ -44,7 +45,7 @@ word-requires c κs = omega (arith, passed-laid (c .before .before .before .befo
 returns-2 : tie.Need-returns-2
 returns-2 c =
     let a = c .before .before .before .before .before .before .args in
-    no-such-set (a .words .now) (a .k) (sided (a .from-end) (grammarOf (a .words .now))) (done (c .before .before)) (rw (c .before .word .ensures .0) at (c .if1 .taken))
+    no-such-set (a .words .now) (a .k) (sided (a .from-end) (grammarOf (a .words .now))) (done (c .before .before)) (rw (c .before .word .ensures) at (c .if1 .taken))
 
 masks-requires : tie.Need-masks-requires
 masks-requires c κs = passed (c .before .before)
@@ -53,7 +54,9 @@ mul-mask : tie.Need-mul-mask
 mul-mask c = search needs
 
 array-read-mask : tie.Need-array-read-mask
-array-read-mask c = omega (arith, below (c .before), passed-laid (c .before .before .before .before .before .before .before .args .words .now) (passed (c .before .before .before)) .headed .nonterminals)
+array-read-mask c =
+    let words = c .before .before .before .before .before .before .before .args .words .now in
+    omega (arith, below (c .before), passed-laid words (passed (c .before .before .before)) .headed .nonterminals)
 
 returns-3 : tie.Need-returns-3
 returns-3 c =

@@ -3,7 +3,7 @@ use mathlib.Core.Path.{_≡_}
 use native.Mathlib.Omega.{arith}
 use Prim.Native.Nat.{_+_, _*_, _-_}
 use lib.ListN.{getD}
-use Rattle.area.specs.Layout.{madeAtWord}
+use Rattle.layout.specs.Layout.{madeAtWord}
 use Rattle.area.proofs.Joined.{k-tests}
 use lib.Dec.{lit<}
 use Rattle.area.proofs.ShapeLaw.{front-word}

@@ -3,7 +3,7 @@ use mathlib.Core.Path.{_≡_, sym, _∙_}
 use native.Mathlib.Omega.{arith}
 use Prim.Native.Nat.{_+_, _*_, _-_, _≤_}
 use lib.ListN.{length, drop}
-use Rattle.area.specs.Layout.{slotsAt}
+use Rattle.layout.specs.Layout.{slotsAt}
 use Rattle.area.specs.Shape.{scanned, side}
 use Rattle.area.specs.ShapeCode.{Few}
 use Rattle.area.proofs.ShapeLaw.{scan-more, slot-few, Ahead, index-fits, word-0, word-1, word-2, word-3, ahead-fits}

@@ -1,17 +1,19 @@
--- `calls::make_moves` meets its contract: the loop's invariant: so many moves of the run are made (`Underway`), and the hand is what the area holds. The measure is what is left of the budget.
+-- `calls::make_moves` meets its contract: the loop's invariant: so many moves of the run are made (`Underway`), and the hand is what the area holds.
+-- The measure is what is left of the budget.
 use native.Mathlib.Omega.{arith}
 use mathlib.Core.Path.{_≡_, refl, sym, _∙_}
 use Prim.Native.Nat.{_-_}
 use lib.ListN.{length}
-use Rattle.reader.specs.AtHand.{AtHand}
-use Rattle.reader.specs.RunMoves.{Runnable, Underway, underway, underway-listed, underway-movable, underway-more, underway-rests, underway-spent}
+use Rattle.moving.specs.AtHand.{AtHand}
+use Rattle.moving.specs.RunMoves.{Runnable, Underway, underway, underway-listed, underway-movable, underway-more, underway-rests, underway-spent}
 use Rattle.reader.proofs.Hands.{hand-rests}
 use borrow.Author.Needs.{needs}
 use Rattle.reader.proofs.calls.make_moves.Statement.{statement}
 use Rattle.reader.proofs.calls.make_moves.Tie as tie
 
 abbrev Inv-loop : tie.InvT-loop
-Inv-loop words matrix area₀ c budget hand₀ made₀ area hand made = ((m : Runnable words matrix area₀ c) → Underway words matrix m budget made area) × AtHand area c hand × (length area ≡ length area₀)
+Inv-loop words matrix area₀ c budget hand₀ made₀ area hand made =
+    ((m : Runnable words matrix area₀ c) → Underway words matrix m budget made area) × AtHand area c hand × (length area ≡ length area₀)
 
 abbrev μ-loop : tie.MeasureT-loop
 μ-loop words matrix area₀ c budget hand₀ made₀ area hand made = budget - made
@@ -29,10 +31,15 @@ same-length : tie.Need-same-length Inv-loop μ-loop
 same-length c = c .before .before .before .loop .inv .2
 
 returns : tie.Need-returns Inv-loop μ-loop
-returns c = record { found = λ m. underway-rests (c .before .before .before .loop .inv .0 m) (sym (hand-rests (c .before .before .before .loop .inv .1)) ∙ sym (c .before .resting .ensures) ∙ c .if1 .taken) }
+returns c =
+    let i = c .before .before .before .loop .inv in
+    record { found = λ m. underway-rests (i .0 m) (sym (hand-rests (i .1)) ∙ sym (c .before .resting .ensures) ∙ c .if1 .taken) }
 
 make-move-requires : tie.Need-make-move-requires Inv-loop μ-loop
-make-move-requires c κs = (underway-movable (c .before .before .before .before .loop .inv .0 (c .before .before .before .before .before .before .before .before .before .before .pre)) (sym (hand-rests (c .before .before .before .before .loop .inv .1)) ∙ sym (c .before .before .resting .ensures) ∙ c .before .if1 .left), c .before .before .before .before .loop .inv .1)
+make-move-requires c κs =
+    let s = c .before .before .before .before .before .before .before .before .before .before in
+    let i = c .before .before .before .before .loop .inv in
+    (underway-movable (i .0 (s .pre)) (sym (hand-rests (i .1)) ∙ sym (c .before .before .resting .ensures) ∙ c .before .if1 .left), i .1)
 
 add-made : tie.Need-add-made Inv-loop μ-loop
 add-made c = omega (arith, c .before .before .before .before .before .before .loop-test .taken)
@@ -41,11 +48,14 @@ loop-less : tie.Need-loop-less Inv-loop μ-loop
 loop-less c = omega (arith, c .before .before .before .before .before .before .loop-test .taken)
 
 loop-again : tie.Need-loop-again Inv-loop μ-loop
-loop-again c = (
-  (λ m. underway-more (c .before .before .before .before .before .before .before .loop .inv .0 m) (c .before .before .before .before .before .before .loop-test .taken) (sym (hand-rests (c .before .before .before .before .before .before .before .loop .inv .1)) ∙ sym (c .before .before .before .before .before .resting .ensures) ∙ c .before .before .before .before .if1 .left) (c .before .before .make-move .ensures .0)),
-  c .before .before .make-move .ensures .1,
-  c .before .before .make-move .kept .1 .1 .0 ∙ c .before .before .before .before .before .before .before .loop .inv .2,
-)
+loop-again c =
+    let i = c .before .before .before .before .before .before .before .loop .inv in
+    let goes-on = sym (hand-rests (i .1)) ∙ sym (c .before .before .before .before .before .resting .ensures) ∙ c .before .before .before .before .if1 .left in
+    let e = c .before .before .make-move .ensures in (
+      (λ m. underway-more (i .0 m) (c .before .before .before .before .before .before .loop-test .taken) goes-on (e .0)),
+      e .1,
+      c .before .before .make-move .kept .1 .1 .0 ∙ i .2,
+    )
 
 same-length-2 : tie.Need-same-length-2 Inv-loop μ-loop
 same-length-2 c = c .before .loop .inv .2

@@ -41,7 +41,9 @@ enum-known-next-3 : tie.Need-enum-known-next-3
 enum-known-next-3 c = search needs
 
 reduce-requires : tie.Need-reduce-requires
-reduce-requires c κs = let k = rw (c .before .before .next3 .given .1) at (c .before .before .before .before .before .pre .0) in (k, c .before .before .before .before .before .pre .1)
+reduce-requires c κs =
+    let s = c .before .before .before .before .before in
+    let k = rw (c .before .before .next3 .given .1) at (s .pre .0) in (k, s .pre .1)
 
 same-length : tie.Need-same-length
 same-length c = search needs

@@ -1,7 +1,7 @@
 -- `calls::next_move` meets its contract: rules 1 and 2 here, the others in `related`.
 use native.Mathlib.Omega.{arith}
-use Rattle.reader.specs.OneMove.{can-push, can-stick, can-read}
-use Rattle.reader.specs.Moved.{stuck-on-top, put-on-top, put-first}
+use Rattle.moving.specs.OneMove.{can-push, can-stick, can-read}
+use Rattle.moving.specs.Moved.{stuck-on-top, put-on-top, put-first}
 use borrow.Author.Needs.{needs}
 use Rattle.reader.proofs.calls.next_move.Statement.{statement}
 use Rattle.reader.proofs.calls.next_move.Tie as tie
@@ -13,29 +13,39 @@ cast-head : tie.Need-cast-head
 cast-head c = omega arith
 
 slot-word-requires : tie.Need-slot-word-requires
-slot-word-requires c κs = let p = can-push (c .before .before .before .before .before .pre .0) 0 (omega arith) in omega (arith, p .slot, c .before .before .before .before .before .pre .1 .head)
+slot-word-requires c κs =
+    let s = c .before .before .before .before .before in
+    let p = can-push (s .pre .0) 0 (omega arith) in omega (arith, p .slot, s .pre .1 .head)
 
 nonterminal-on-top-requires : tie.Need-nonterminal-on-top-requires
-nonterminal-on-top-requires c κs = rw (c .before .before .before .before .before .before .before .pre .1 .from, c .before .before .before .before .before .before .before .pre .1 .head) (can-read (c .before .before .before .before .before .before .before .pre .0) .stacked)
+nonterminal-on-top-requires c κs =
+    let s = c .before .before .before .before .before .before .before in
+    rw (s .pre .1 .from, s .pre .1 .head) (can-read (s .pre .0) .stacked)
 
 returns : tie.Need-returns
 returns c =
-    let h = c .before .before .before .before .before .before .before .before .before .pre .1 in
+    let s = c .before .before .before .before .before .before .before .before .before in
+    let h = s .pre .1 in
     record {
-      possible = can-stick (c .before .before .before .before .before .before .before .before .before .pre .0);
-      leaves = stuck-on-top (rw (c .before .before .before .slot-word .ensures, h .head) at (c .before .before .if1 .taken)) (rw (c .if2 .taken, h .from, h .head) at (c .before .nonterminal-on-top .ensures));
+      possible = can-stick (s .pre .0);
+      leaves = stuck-on-top (rw (c .before .before .before .slot-word .ensures, h .head) at (c .before .before .if1 .taken))
+          (rw (c .if2 .taken, h .from, h .head) at (c .before .nonterminal-on-top .ensures));
     }
 
 returns-2 : tie.Need-returns-2
 returns-2 c =
-    let h = c .before .before .before .before .before .before .before .before .before .pre .1 in
+    let s = c .before .before .before .before .before .before .before .before .before in
+    let h = s .pre .1 in
     record {
-      possible = can-push (c .before .before .before .before .before .before .before .before .before .pre .0) 0 (omega arith);
-      leaves = put-on-top (rw (c .before .before .before .slot-word .ensures, h .head) at (c .before .before .if1 .taken)) (rw (c .if2 .left, h .from, h .head) at (c .before .nonterminal-on-top .ensures));
+      possible = can-push (s .pre .0) 0 (omega arith);
+      leaves = put-on-top (rw (c .before .before .before .slot-word .ensures, h .head) at (c .before .before .if1 .taken))
+          (rw (c .if2 .left, h .from, h .head) at (c .before .nonterminal-on-top .ensures));
     }
 
 top-terminal-requires : tie.Need-top-terminal-requires
-top-terminal-requires c κs = rw (c .before .before .before .before .before .before .before .pre .1 .from, c .before .before .before .before .before .before .before .pre .1 .head) (can-read (c .before .before .before .before .before .before .before .pre .0) .stacked)
+top-terminal-requires c κs =
+    let s = c .before .before .before .before .before .before .before in
+    rw (s .pre .1 .from, s .pre .1 .head) (can-read (s .pre .0) .stacked)
 
 enum-known-a : tie.Need-enum-known-a
 enum-known-a c = search needs
@@ -60,10 +70,14 @@ enum-told c = search needs
 
 returns-4 : tie.Need-returns-4
 returns-4 c =
-    let h = c .before .before .before .before .before .before .before .before .before .before .pre .1 in
+    let s = c .before .before .before .before .before .before .before .before .before .before in
+    let h = s .pre .1 in
     record {
-      possible = can-push (c .before .before .before .before .before .before .before .before .before .before .pre .0) 0 (omega arith);
-      leaves = put-first (rw (c .before .before .before .before .slot-word .ensures, h .head) at (c .before .before .before .if1 .left)) (rw (c .enum-told .given .1, h .from, h .head) at (c .before .before .top-terminal .ensures));
+      possible = can-push (s .pre .0) 0 (omega arith);
+      leaves = put-first (rw (
+        c .before .before .before .before .slot-word .ensures,
+        h .head,
+      ) at (c .before .before .before .if1 .left)) (rw (c .enum-told .given .1, h .from, h .head) at (c .before .before .top-terminal .ensures));
     }
 
 pub next-move-spec : {M : Type 1} → statement M

@@ -16,7 +16,9 @@ slot-at-requires : tie.Need-slot-at-requires
 slot-at-requires c κs = omega (arith, c .before .before .before .pre .0 .some, c .before .before .before .pre .0 .room, c .before .before .before .pre .1 .end)
 
 zero-requires : tie.Need-zero-requires
-zero-requires c κs = omega (arith, c .before .slot-at .ensures, c .before .before .before .before .before .pre .0 .some, c .before .before .before .before .before .pre .0 .room, c .before .before .before .before .before .pre .1 .end)
+zero-requires c κs =
+    let s = c .before .before .before .before .before in
+    omega (arith, c .before .slot-at .ensures, s .pre .0 .some, s .pre .0 .room, s .pre .1 .end)
 
 mul-area : tie.Need-mul-area
 mul-area c = omega arith
@@ -31,13 +33,17 @@ mul-area-2 : tie.Need-mul-area-2
 mul-area-2 c = omega arith
 
 slice-write-area : tie.Need-slice-write-area
-slice-write-area c = omega (arith, c .before .before .zero .kept .0, c .before .before .before .before .before .before .before .before .pre .0 .chunk, c .before .before .before .before .before .before .before .before .pre .0 .room)
+slice-write-area c =
+    let s = c .before .before .before .before .before .before .before .before in
+    omega (arith, c .before .before .zero .kept .0, s .pre .0 .chunk, s .pre .0 .room)
 
 same-length : tie.Need-same-length
 same-length c = simp length-set (c .before .before .zero .kept .0)
 
 returns : tie.Need-returns
-returns c = let k = hand-accepted _ _ _ (c .before .before .before .before .before .before .before .before .pre) in rw (c .before .before .zero .ensures, c .before .before .before .before .slot-at .ensures) (k .0, k .1, refl)
+returns c =
+    let s = c .before .before .before .before .before .before .before .before in
+    let k = hand-accepted _ _ _ (s .pre) in rw (c .before .before .zero .ensures, c .before .before .before .before .slot-at .ensures) (k .0, k .1, refl)
 
 pub accept-spec : {M : Type 1} → statement M
 accept-spec =

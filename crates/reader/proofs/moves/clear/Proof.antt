@@ -3,7 +3,7 @@ use Rattle.reader.proofs.Clearing.{Clearing, clearing, clearing-more, c
 use native.Mathlib.Omega.{arith}
 use mathlib.Core.Path.{_≡_, refl}
 use lib.ListN.{length, length-set}
-use Rattle.reader.specs.MoveWords.{clearedOne}
+use Rattle.moving.specs.MoveWords.{clearedOne}
 use Rattle.reader.proofs.moves.clear.Statement.{statement}
 use Rattle.reader.proofs.moves.clear.Tie as tie
 

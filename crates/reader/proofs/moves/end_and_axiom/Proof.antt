@@ -44,7 +44,12 @@ returns-3 c =
     let two = rw upper at (c .before .before .before .if2 .left) in
     record {
       found = λ stack h table ax.
-          rw (c .slot-word2 .ensures, c .before .slot-word .ensures, c .before .before .block-start2 .ensures, upper) (end-and-axiom table (c .before .before .before .before .before .if1 .left) stack h two _ ax);
+          rw (
+            c .slot-word2 .ensures,
+            c .before .slot-word .ensures,
+            c .before .before .block-start2 .ensures,
+            upper,
+          ) (end-and-axiom table (c .before .before .before .before .before .if1 .left) stack h two _ ax);
     }
 
 pub end-and-axiom-spec : {M : Type 1} → statement M

@@ -1,6 +1,6 @@
 -- `moves::find_mark` meets its contract: the loop's invariant: whatever stack stands there, its topmost mark is in what is left (`Down`). The measure is `at`.
 use Rattle.reader.proofs.Walks.{Down, down-begins, down-none, down-ends, down-under, below-start, below-here, below-ends, mark-found, mark-more}
-use Rattle.reader.specs.ReadWords.{Holds, Stacked, handleBelow}
+use Rattle.moving.specs.ReadWords.{Holds, Stacked, handleBelow}
 use Rattle.machine.specs.Entries.{Entry}
 use Rattle.language.specs.Trees.{Span}
 use mathlib.Core.List.{List}
@@ -22,18 +22,24 @@ block-start-requires c κs = down-ends _ handleBelow (c .before .loop .inv (c .b
 
 slot-word-requires : tie.Need-slot-word-requires Inv-loop μ-loop
 slot-word-requires c κs =
-    let e = down-ends _ handleBelow (c .before .before .loop .inv (c .before .before .before .before .pre .stack) (c .before .before .before .before .pre .holds)) (c .before .loop-test .taken) in
+    let s = c .before .before .before .before in
+    let e = down-ends _ handleBelow (c .before .before .loop .inv (s .pre .stack) (s .pre .holds)) (c .before .loop-test .taken) in
     omega (arith, c .block-start .ensures, e .some, e .fits, e .within)
 
 nonterminal-on-top-requires : tie.Need-nonterminal-on-top-requires Inv-loop μ-loop
 nonterminal-on-top-requires c κs =
-    let p = c .before .before .before .before .before .before .pre in
-    rw (c .before .before .block-start .ensures) (down-under _ handleBelow (c .before .before .before .before .loop .inv (p .stack) (p .holds)) (c .before .before .before .loop-test .taken))
+    let s = c .before .before .before .before .before .before in
+    let p = s .pre in
+    rw (c .before .before .block-start .ensures)
+    (down-under _ handleBelow (c .before .before .before .before .loop .inv (p .stack) (p .holds)) (c .before .before .before .loop-test .taken))
 
 block-start-requires-2 : tie.Need-block-start-requires-2 Inv-loop μ-loop
 block-start-requires-2 c κs =
-    let p = c .before .before .before .before .before .before .before .before .pre in
-    let under : Stacked (c .before .before .before .before .before .before .before .before .args .area .now) (c .before .before .before .before .before .before .before .before .args .from) (c .before .before .before .before .block-start .result) = rw (c .before .before .before .before .block-start .ensures) (down-under _ handleBelow (c .before .before .before .before .before .before .loop .inv (p .stack) (p .holds)) (c .before .before .before .before .before .loop-test .taken)) in
+    let s = c .before .before .before .before .before .before .before .before in
+    let p = s .pre in
+    let under : Stacked (s .args .area .now) (s .args .from) (c .before .before .before .before .block-start .result)
+    = rw (c .before .before .before .before .block-start .ensures)
+    (down-under _ handleBelow (c .before .before .before .before .before .before .loop .inv (p .stack) (p .holds)) (c .before .before .before .before .before .loop-test .taken)) in
     below-ends (c .before .nonterminal-on-top .ensures) under (c .if2 .taken)
 
 returns : tie.Need-returns Inv-loop μ-loop
@@ -41,18 +47,21 @@ returns c =
     let e = c .before .before .before .before .before .block-start .ensures in
     let w = rw (c .before .before .before .before .slot-word .ensures, e) at (c .before .before .before .if1 .taken) in
     let b = rw e at (below-start (c .before .before .nonterminal-on-top .ensures) (c .before .if2 .taken)) in
-    record { found = λ stack h. rw (c .block-start2 .ensures, e) (mark-found (c .before .before .before .before .before .before .before .loop .inv stack h) (c .before .before .before .before .before .before .loop-test .taken) w b) }
+    let t = c .before .before .before .before .before .before .loop-test .taken in
+    record { found = λ stack h. rw (c .block-start2 .ensures, e) (mark-found (c .before .before .before .before .before .before .before .loop .inv stack h) t w b) }
 
 returns-2 : tie.Need-returns-2 Inv-loop μ-loop
 returns-2 c =
     let e = c .before .before .before .before .block-start .ensures in
     let w = rw (c .before .before .before .slot-word .ensures, e) at (c .before .before .if1 .taken) in
     let b = rw e at (below-here (c .before .nonterminal-on-top .ensures) (c .if2 .left)) in
-    record { found = λ stack h. rw e (mark-found (c .before .before .before .before .before .before .loop .inv stack h) (c .before .before .before .before .before .loop-test .taken) w b) }
+    let t = c .before .before .before .before .before .loop-test .taken in
+    record { found = λ stack h. rw e (mark-found (c .before .before .before .before .before .before .loop .inv stack h) t w b) }
 
 loop-less : tie.Need-loop-less Inv-loop μ-loop
 loop-less c =
-    let e = down-ends _ handleBelow (c .before .before .before .before .loop .inv (c .before .before .before .before .before .before .pre .stack) (c .before .before .before .before .before .before .pre .holds)) (c .before .before .before .loop-test .taken) in
+    let s = c .before .before .before .before .before .before in
+    let e = down-ends _ handleBelow (c .before .before .before .before .loop .inv (s .pre .stack) (s .pre .holds)) (c .before .before .before .loop-test .taken) in
     omega (arith, c .before .before .block-start .ensures, e .some, e .fits, e .within)
 
 loop-again : tie.Need-loop-again Inv-loop μ-loop

@@ -20,14 +20,28 @@ row-word-requires-4 c κs = search needs
 row-word-requires-5 : tie.Need-row-word-requires-5
 row-word-requires-5 c κs = search needs
 
-shared-slice-read-t9 : tie.Need-shared-slice-read-t9
-shared-slice-read-t9 c = omega arith
+cast-t8 : tie.Need-cast-t8
+cast-t8 c = omega arith
+
+shared-slice-read-t10 : tie.Need-shared-slice-read-t10
+shared-slice-read-t10 c = omega arith
+
+cast-t11 : tie.Need-cast-t11
+cast-t11 c = omega (arith, c .shared-slice-known2 .given 4)
 
 moves-of-requires : tie.Need-moves-of-requires
 moves-of-requires c κs = search needs
 
 returns : tie.Need-returns
-returns c = record { status = c .before .before .before .before .before .before .row-word .ensures; from = c .before .before .before .before .before .row-word2 .ensures; head = c .before .before .before .before .row-word3 .ensures; end = c .before .before .before .row-word4 .ensures; marks = c .before .before .row-word5 .ensures; reductions = refl; moves = c .moves-of .ensures }
+returns c = record {
+  status = c .before .before .before .before .before .before .row-word .ensures;
+  from = c .before .before .before .before .before .row-word2 .ensures;
+  head = c .before .before .before .before .row-word3 .ensures;
+  end = c .before .before .before .row-word4 .ensures;
+  marks = c .before .before .row-word5 .ensures;
+  reductions = refl;
+  moves = c .moves-of .ensures;
+}
 
 pub hand-of-spec : {M : Type 1} → statement M
 hand-of-spec =
@@ -38,6 +52,8 @@ hand-of-spec =
     row-word-requires-3
     row-word-requires-4
     row-word-requires-5
-    shared-slice-read-t9
+    cast-t8
+    shared-slice-read-t10
+    cast-t11
     moves-of-requires
     returns)

@@ -4,7 +4,7 @@ use mathlib.Core.Path.{sym, ap, subst, _∙_}
 use mathlib.Core.List.{List}
 use Prim.Native.Nat.{ℕ}
 use lib.ListN.{length-set}
-use Rattle.reader.specs.MoveWords.{tickWords, joinWords, Ticks}
+use Rattle.moving.specs.MoveWords.{tickWords, joinWords, Ticks}
 use Rattle.reader.proofs.Ready.{one-ready}
 use Rattle.reader.proofs.Hands.{hand-counted}
 use Rattle.reader.proofs.Zeroing.{one-zeroed}
@@ -24,13 +24,17 @@ add-unmark : tie.Need-add-unmark
 add-unmark c = omega arith
 
 sub-unmark : tie.Need-sub-unmark
-sub-unmark c = omega (arith, c .before .before .before .hand-of .ensures .from, c .before .before .before .hand-of .ensures .head, c .before .before .before .before .before .before .pre .from)
+sub-unmark c =
+    let s = c .before .before .before .before .before .before in
+    omega (arith, c .before .before .before .hand-of .ensures .from, c .before .before .before .hand-of .ensures .head, s .pre .from)
 
 cast-unmark : tie.Need-cast-unmark
 cast-unmark c = omega arith
 
 unmark-requires : tie.Need-unmark-requires
-unmark-requires c κs = omega (arith, c .before .slot-at .ensures, c .before .before .before .hand-of .ensures .from, c .before .before .before .hand-of .ensures .head, c .before .before .before .before .before .before .pre .from, c .before .before .before .before .before .before .pre .room)
+unmark-requires c κs =
+    let s = c .before .before .before .before .before .before in
+    omega (arith, c .before .slot-at .ensures, c .before .before .before .hand-of .ensures .from, c .before .before .before .hand-of .ensures .head, s .pre .from, s .pre .room)
 
 mul-area : tie.Need-mul-area
 mul-area c = omega arith
@@ -45,7 +49,9 @@ mul-area-2 : tie.Need-mul-area-2
 mul-area-2 c = omega arith
 
 slice-write-area : tie.Need-slice-write-area
-slice-write-area c = omega (arith, c .before .before .unmark .kept .0, c .before .before .before .before .before .before .before .before .before .pre .left, c .before .before .before .before .before .before .before .before .before .pre .room)
+slice-write-area c =
+    let s = c .before .before .before .before .before .before .before .before .before in
+    omega (arith, c .before .before .unmark .kept .0, s .pre .left, s .pre .room)
 
 mul-zero : tie.Need-mul-zero
 mul-zero c = omega arith
@@ -54,22 +60,47 @@ add-zero : tie.Need-add-zero
 add-zero c = omega arith
 
 zero-requires : tie.Need-zero-requires
-zero-requires c κs = simp length-set (omega (arith, c .before .before .before .unmark .kept .0, c .before .before .before .before .before .before .before .before .before .before .pre .right, c .before .before .before .before .before .before .before .before .before .before .pre .room))
+zero-requires c κs =
+    let s = c .before .before .before .before .before .before .before .before .before .before in
+    simp length-set (omega (arith, c .before .before .before .unmark .kept .0, s .pre .right, s .pre .room))
 
 tick-requires : tie.Need-tick-requires
 tick-requires c κs =
-    let p = c .before .before .before .before .before .before .before .before .before .before .before .before .before .before .pre in
+    let s = c .before .before .before .before .before .before .before .before .before .before .before .before .before .before in
+    let p = s .pre in
     let h = c .before .before .before .before .before .before .before .before .before .before .before .hand-of .ensures in
-    rw (c .before .before .before .zero .ensures, c .before .before .before .before .before .before .before .unmark .ensures, c .before .before .before .before .before .before .before .before .before .slot-at .ensures, h .from, h .head, h .end) (subst (λ (l : List ℕ). Ticks l (c .before .before .before .before .before .before .before .before .before .before .before .hand-of .result .moves)) (sym (one-zeroed _ _ _ p)) (one-ready _ _ _ _ (hand-counted h (omega (arith, p .room)) (omega (arith, c .before .before .before .before .before .before .before .before .before .before .before .before .before .slice-known .given 2)) (p .few))))
+    rw (
+      c .before .before .before .zero .ensures,
+      c .before .before .before .before .before .before .before .unmark .ensures,
+      c .before .before .before .before .before .before .before .before .before .slot-at .ensures,
+      h .from,
+      h .head,
+      h .end,
+    ) (subst (λ (l : List ℕ). Ticks l (c .before .before .before .before .before .before .before .before .before .before .before .hand-of .result .moves))
+    (sym (one-zeroed _ _ _ p)) (one-ready _ _ _ _ (hand-counted h (omega (arith, p .room)) (omega (
+      arith,
+      c .before .before .before .before .before .before .before .before .before .before .before .before .before .slice-known .given 2,
+    )) (p .few))))
 
 same-length : tie.Need-same-length
-same-length c = c .before .before .tick .kept .0 ∙ c .before .before .before .before .before .before .zero .kept .0 ∙ simp length-set (c .before .before .before .before .before .before .before .before .before .before .unmark .kept .0)
+same-length c =
+    c .before .before .tick .kept .0 ∙ c .before .before .before .before .before .before .zero .kept .0
+    ∙ simp length-set (c .before .before .before .before .before .before .before .before .before .before .unmark .kept .0)
 
 returns : tie.Need-returns
 unfolding joinWords
 returns c =
+    let s = c .before .before .before .before .before .before .before .before .before .before .before .before .before .before .before .before .before in
     let h = c .before .before .before .before .before .before .before .before .before .before .before .before .before .before .hand-of .ensures in
-    rw (c .before .before .tick .ensures .1, c .before .before .before .before .before .before .zero .ensures, c .before .before .before .before .before .before .before .before .before .before .unmark .ensures, c .before .before .before .before .before .before .before .before .before .before .before .before .slot-at .ensures, h .from, h .head, h .end) (ap tickWords (one-zeroed _ _ _ (c .before .before .before .before .before .before .before .before .before .before .before .before .before .before .before .before .before .pre)))
+    rw (
+      c .before .before .tick .ensures .1,
+      c .before .before .before .before .before .before .zero .ensures,
+      c .before .before .before .before .before .before .before .before .before .before .unmark .ensures,
+      c .before .before .before .before .before .before .before .before .before .before .before .before .slot-at .ensures,
+      h .from,
+      h .head,
+      h .end,
+    ) (ap tickWords (one-zeroed _ _ _ (s .pre)))
 
 pub join-chunks-spec : {M : Type 1} → statement M
 join-chunks-spec =

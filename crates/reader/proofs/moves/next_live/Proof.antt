@@ -2,7 +2,7 @@
 use Rattle.reader.proofs.Searches.{first-here, first-past, first-end}
 use borrow.Author.Tests.{lt-ltb, le-ltb}
 use Rattle.laws.specs.Least.{firstFrom}
-use Rattle.reader.specs.ReadWords.{nextOf, liveAt, liveAfter}
+use Rattle.moving.specs.ReadWords.{nextOf, liveAt, liveAfter}
 use Prim.Native.Nat.{_≤_, _<_, _-_}
 use mathlib.Core.Path.{_≡_, refl, sym, ap, _∙_}
 use native.Mathlib.Omega.{arith}
@@ -32,8 +32,9 @@ row-word-requires c κs = omega arith
 
 returns : tie.Need-returns Inv-loop μ-loop
 returns c =
+    let s = c .before .before .before .before .before .before in
     let l = c .before .before .before .loop in
-    sym (ap nextOf (l .inv .2 ∙ first-here (liveAt (c .before .before .before .before .before .before .args .area .now)) _ (l .d) (omega arith) (lt-ltb _ _ (rw (c .before .row-word .ensures) at (c .if1 .taken)))))
+    sym (ap nextOf (l .inv .2 ∙ first-here (liveAt (s .args .area .now)) _ (l .d) (omega arith) (lt-ltb _ _ (rw (c .before .row-word .ensures) at (c .if1 .taken)))))
 
 add-d-2 : tie.Need-add-d-2 Inv-loop μ-loop
 add-d-2 c = omega arith
@@ -43,8 +44,9 @@ loop-less c = omega arith
 
 loop-again : tie.Need-loop-again Inv-loop μ-loop
 loop-again c =
+    let s = c .before .before .before .before .before .before in
     let l = c .before .before .before .loop in
-    (omega arith, omega arith, l .inv .2 ∙ first-past (liveAt (c .before .before .before .before .before .before .args .area .now)) _ (l .d) (omega arith) (le-ltb _ _ (rw (c .before .row-word .ensures) at (c .if1 .left))))
+    (omega arith, omega arith, l .inv .2 ∙ first-past (liveAt (s .args .area .now)) _ (l .d) (omega arith) (le-ltb _ _ (rw (c .before .row-word .ensures) at (c .if1 .left))))
 
 returns-2 : tie.Need-returns-2 Inv-loop μ-loop
 returns-2 c =

@@ -1,7 +1,7 @@
 -- `moves::note` meets its contract: four stores.
 use native.Mathlib.Omega.{arith}
 use lib.ListN.{length-set}
-use Rattle.reader.specs.MoveWords.{notedWords}
+use Rattle.moving.specs.MoveWords.{notedWords}
 use borrow.Author.Needs.{needs}
 use Rattle.reader.proofs.moves.note.Statement.{statement}
 use Rattle.reader.proofs.moves.note.Tie as tie
@@ -51,6 +51,9 @@ slice-write-area-3 c = simp length-set (omega arith)
 add-area-3 : tie.Need-add-area-3
 add-area-3 c = omega (arith, c .before .before .before .pre .0 .made, c .before .before .before .pre .1, c .before .before .slice-known .given 0)
 
+cast-area : tie.Need-cast-area
+cast-area c = omega (arith, c .before .before .before .pre .0 .made, c .before .before .before .pre .1, c .before .before .slice-known .given 0)
+
 slice-write-area-4 : tie.Need-slice-write-area-4
 slice-write-area-4 c = simp length-set (omega arith)
 
@@ -80,6 +83,7 @@ note-spec =
     mul-area-3
     slice-write-area-3
     add-area-3
+    cast-area
     slice-write-area-4
     same-length
     returns)

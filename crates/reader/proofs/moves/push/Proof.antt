@@ -40,7 +40,9 @@ mul-area : tie.Need-mul-area
 mul-area c = omega arith
 
 slice-write-area : tie.Need-slice-write-area
-slice-write-area c = omega (arith, c .before .before .slot-at .ensures, c .before .before .before .before .before .pre .0 .slot, c .before .before .before .before .before .pre .1 .head)
+slice-write-area c =
+    let s = c .before .before .before .before .before in
+    omega (arith, c .before .before .slot-at .ensures, s .pre .0 .slot, s .pre .1 .head)
 
 add-area-2 : tie.Need-add-area-2
 add-area-2 c = omega arith
@@ -51,6 +53,9 @@ mul-area-2 c = omega arith
 slice-write-area-2 : tie.Need-slice-write-area-2
 slice-write-area-2 c = simp length-set (omega (arith, c .before .before .before .before .before .pre .0 .chunk, c .before .before .before .before .before .pre .0 .slot))
 
+cast-area : tie.Need-cast-area
+cast-area c = omega (arith, c .before .before .before .before .before .before .pre .0 .marks, c .before .before .before .before .before .before .pre .1 .marks)
+
 add-area-3 : tie.Need-add-area-3
 add-area-3 c = omega arith
 
@@ -58,13 +63,15 @@ mul-area-3 : tie.Need-mul-area-3
 mul-area-3 c = omega arith
 
 slice-write-area-3 : tie.Need-slice-write-area-3
-slice-write-area-3 c = simp length-set (omega (arith, c .before .before .before .before .before .pre .0 .chunk, c .before .before .before .before .before .pre .0 .slot))
+slice-write-area-3 c =
+    let s = c .before .before .before .before .before .before in
+    simp length-set (omega (arith, s .pre .0 .chunk, s .pre .0 .slot))
 
 same-length : tie.Need-same-length
 same-length c = simp length-set
 
 returns : tie.Need-returns
-returns c = let k = hand-pushed _ _ _ _ (c .before .before .before .before .before .pre) in rw (c .before .before .slot-at .ensures) (k .0, k .1, refl)
+returns c = let k = hand-pushed _ _ _ _ (c .before .before .before .before .before .before .pre) in rw (c .before .before .before .slot-at .ensures) (k .0, k .1, refl)
 
 pub push-spec : {M : Type 1} → statement M
 push-spec =
@@ -85,6 +92,7 @@ push-spec =
     add-area-2
     mul-area-2
     slice-write-area-2
+    cast-area
     add-area-3
     mul-area-3
     slice-write-area-3

@@ -2,6 +2,7 @@
 use native.Mathlib.Omega.{arith}
 use lib.ListN.{length-set}
 use mathlib.Core.Path.{refl, _∙_}
+use Rattle.layout.specs.Layout.{tableAt}
 use Rattle.reader.proofs.Hands.{over-roomy, hand-reduced}
 use Rattle.reader.proofs.moves.reduce.Statement.{statement}
 use Rattle.reader.proofs.moves.reduce.Tie as tie
@@ -13,7 +14,14 @@ add-hand : tie.Need-add-hand
 add-hand c = omega (arith, c .before .before .pre .0 .room .made, c .before .before .pre .1 .reductions, c .before .slice-known .given 0)
 
 lay-requires : tie.Need-lay-requires
-lay-requires c κs = rw (c .before .before .before .pre .1 .head) (c .before .before .before .pre .0 .some, c .before .before .before .pre .0 .handle, omega (arith, c .before .before .before .pre .0 .top, c .before .before .before .pre .0 .room .room))
+lay-requires c κs =
+    let s = c .before .before .before in
+    rw (s .pre .1 .head) (s .pre .0 .some, s .pre .0 .handle, omega (arith, s .pre .0 .top, s .pre .0 .room .room))
+
+cast-area : tie.Need-cast-area
+cast-area c =
+    let s = c .before .before .before .before .before .before .before in
+    omega (arith, s .pre .1 .marks, c .before .before .before .before .before .before .slice-known .given (tableAt (s .args .c) 4))
 
 mul-area : tie.Need-mul-area
 mul-area c = omega arith
@@ -28,22 +36,24 @@ mul-area-2 : tie.Need-mul-area-2
 mul-area-2 c = omega arith
 
 slice-write-area : tie.Need-slice-write-area
-slice-write-area c = omega (arith, c .before .before .lay .kept .0, c .before .before .before .before .before .before .pre .0 .chunk, c .before .before .before .before .before .before .pre .0 .room .room)
+slice-write-area c = let p = c .before .before .before .before .before .before .before .pre .0 in omega (arith, c .before .before .before .lay .kept .0, p .chunk, p .room .room)
 
 sub-note : tie.Need-sub-note
-sub-note c = omega (arith, c .before .before .before .before .before .before .before .pre .0 .low)
+sub-note c = omega (arith, c .before .before .before .before .before .before .before .before .pre .0 .low)
 
 sub-note-2 : tie.Need-sub-note-2
-sub-note-2 c = omega (arith, c .before .before .before .before .before .before .before .pre .0 .some, c .before .before .before .before .before .before .before .pre .1 .head)
+sub-note-2 c = let p = c .before .before .before .before .before .before .before .before .pre in omega (arith, p .0 .some, p .1 .head)
 
 note-requires : tie.Need-note-requires
-note-requires c κs = rw (c .before .before .before .lay .ensures) (over-roomy _ _ _ _ _ (c .before .before .before .before .before .before .before .pre))
+note-requires c κs = rw (c .before .before .before .before .lay .ensures) (over-roomy _ _ _ _ _ (c .before .before .before .before .before .before .before .before .pre))
 
 same-length : tie.Need-same-length
-same-length c = c .before .before .note .kept .0 ∙ simp length-set (c .before .before .before .before .before .before .lay .kept .0)
+same-length c = c .before .before .note .kept .0 ∙ simp length-set (c .before .before .before .before .before .before .before .lay .kept .0)
 
 returns : tie.Need-returns
-returns c = let k = hand-reduced _ _ _ _ _ (c .before .before .before .before .before .before .before .before .before .before .pre) _ in rw (c .before .before .note .ensures, c .before .before .before .before .before .before .lay .ensures) (k .0, k .1, refl)
+returns c =
+    let k = hand-reduced _ _ _ _ _ (c .before .before .before .before .before .before .before .before .before .before .before .pre) _ in
+    rw (c .before .before .note .ensures, c .before .before .before .before .before .before .before .lay .ensures) (k .0, k .1, refl)
 
 pub reduce-spec : {M : Type 1} → statement M
 reduce-spec =
@@ -52,6 +62,7 @@ reduce-spec =
     sub-hand
     add-hand
     lay-requires
+    cast-area
     mul-area
     add-area
     add-area-2

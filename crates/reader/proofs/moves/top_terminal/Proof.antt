@@ -1,6 +1,6 @@
 -- `moves::top_terminal` meets its contract: the loop's invariant: whatever stack stands there, its topmost terminal is in what is left (`Down`). The measure is `at`.
 use Rattle.reader.proofs.Walks.{Down, down-begins, down-none, down-ends, top-found, top-more}
-use Rattle.reader.specs.ReadWords.{Holds, topOf}
+use Rattle.moving.specs.ReadWords.{Holds, topOf}
 use Rattle.machine.specs.Entries.{Entry, topTerminal}
 use Rattle.language.specs.Trees.{Span}
 use mathlib.Core.List.{List}
@@ -23,18 +23,21 @@ block-start-requires c κs = down-ends _ topTerminal (c .before .loop .inv (c .b
 
 slot-word-requires : tie.Need-slot-word-requires Inv-loop μ-loop
 slot-word-requires c κs =
-    let e = down-ends _ topTerminal (c .before .before .loop .inv (c .before .before .before .before .pre .stack) (c .before .before .before .before .pre .holds)) (c .before .loop-test .taken) in
+    let s = c .before .before .before .before in
+    let e = down-ends _ topTerminal (c .before .before .loop .inv (s .pre .stack) (s .pre .holds)) (c .before .loop-test .taken) in
     omega (arith, c .block-start .ensures, e .some, e .fits, e .within)
 
 returns : tie.Need-returns Inv-loop μ-loop
 returns c =
     let e = c .before .before .block-start .ensures in
     let w = rw (c .before .slot-word .ensures, e) at (c .if1 .taken) in
-    record { found = λ stack h. rw (c .before .slot-word .ensures, e) (top-found (c .before .before .before .before .loop .inv stack h) (c .before .before .before .loop-test .taken) w) }
+    let t = c .before .before .before .loop-test .taken in
+    record { found = λ stack h. rw (c .before .slot-word .ensures, e) (top-found (c .before .before .before .before .loop .inv stack h) t w) }
 
 loop-less : tie.Need-loop-less Inv-loop μ-loop
 loop-less c =
-    let e = down-ends _ topTerminal (c .before .before .before .before .loop .inv (c .before .before .before .before .before .before .pre .stack) (c .before .before .before .before .before .before .pre .holds)) (c .before .before .before .loop-test .taken) in
+    let s = c .before .before .before .before .before .before in
+    let e = down-ends _ topTerminal (c .before .before .before .before .loop .inv (s .pre .stack) (s .pre .holds)) (c .before .before .before .loop-test .taken) in
     omega (arith, c .before .before .block-start .ensures, e .some, e .fits, e .within)
 
 loop-again : tie.Need-loop-again Inv-loop μ-loop

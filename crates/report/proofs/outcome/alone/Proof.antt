@@ -40,8 +40,13 @@ loop-less c = omega arith
 
 loop-again : tie.Need-loop-again Inv-loop μ-loop
 loop-again c = let l = c .before .before .before .loop in
-    let s = c .before .before .before .before .args in
-    (omega arith, omega arith, l .inv .2 ∙ none-step (s .area .now) (l .i) (l .chunk) (s .count) (c .before .before .loop-test .taken) ∙ rw (eq-eqb (getD (s .area .now) (l .i) 0) 0 (c .if1 .left)))
+    let s = c .before .before .before .before .args in (
+      omega arith,
+      omega arith,
+      l .inv .2
+          ∙ none-step (s .area .now) (l .i) (l .chunk) (s .count) (c .before .before .loop-test .taken)
+          ∙ rw (eq-eqb (getD (s .area .now) (l .i) 0) 0 (c .if1 .left)),
+    )
 
 returns-2 : tie.Need-returns-2 Inv-loop μ-loop
 returns-2 c = let l = c .before .loop in

@@ -26,19 +26,21 @@ shared-slice-read-status c = search needs
 shared-slice-read-head : tie.Need-shared-slice-read-head
 shared-slice-read-head c = search needs
 
-sub-refusal-of : tie.Need-sub-refusal-of
-sub-refusal-of c = search needs
+sub-stuck-refusal : tie.Need-sub-stuck-refusal
+sub-stuck-refusal c = search needs
 
-cast-refusal-of : tie.Need-cast-refusal-of
-cast-refusal-of c = omega (arith, c .before .shared-slice-known4 .given 7)
+cast-stuck-refusal : tie.Need-cast-stuck-refusal
+cast-stuck-refusal c = omega (arith, c .before .shared-slice-known4 .given 7)
 
-refusal-of-requires : tie.Need-refusal-of-requires
-refusal-of-requires c κs = search needs
+stuck-refusal-requires : tie.Need-stuck-refusal-requires
+stuck-refusal-requires c κs = search needs
 
 returns-2 : tie.Need-returns-2
 returns-2 c =
     let s = c .before .before .before .before .before .before .before .before .before .args in
-    refuses (s .out .now) (is-stuck (s .area .now) (c .before .before .before .before .before .alone .ensures) (not-false _ (c .before .before .before .before .if1 .left)) (c .before .if2 .taken) (c .refusal-of .ensures))
+    refuses (s .out .now)
+    (is-stuck (s .area .now) (c .before .before .before .before .before .alone .ensures) (not-false _ (c .before .before .before .before .if1 .left))
+    (c .before .if2 .taken) (c .stuck-refusal .ensures))
 
 shared-slice-read-if3 : tie.Need-shared-slice-read-if3
 shared-slice-read-if3 c = search needs
@@ -46,7 +48,9 @@ shared-slice-read-if3 c = search needs
 returns-3 : tie.Need-returns-3
 returns-3 c =
     let s = c .before .before .before .before .before .before .before .before .before .before .args in
-    refuses (s .out .now) (still-moves (s .area .now) (c .before .before .before .before .before .before .alone .ensures) (not-false _ (c .before .before .before .before .before .if1 .left)) (c .before .before .if2 .left) (c .if3 .taken))
+    refuses (s .out .now)
+    (still-moves (s .area .now) (c .before .before .before .before .before .before .alone .ensures) (not-false _ (c .before .before .before .before .before .if1 .left))
+    (c .before .before .if2 .left) (c .if3 .taken))
 
 report-of-requires : tie.Need-report-of-requires
 report-of-requires c κs = search needs
@@ -57,7 +61,11 @@ same-length c = search needs
 returns-4 : tie.Need-returns-4
 returns-4 c =
     let s = c .before .before .before .before .before .before .before .before .before .before .before .before .before .before .args in
-    passed-on (s .out .now) (at-rest (s .area .now) (c .before .before .before .before .before .before .before .before .before .before .alone .ensures) (not-false _ (c .before .before .before .before .before .before .before .before .before .if1 .left)) (c .before .before .before .before .before .before .if2 .left) (c .before .before .before .before .if3 .left)) (c .before .before .report-of .ensures)
+    passed-on (s .out .now)
+    (at-rest (s .area .now) (c .before .before .before .before .before .before .before .before .before .before .alone .ensures)
+    (not-false _ (c .before .before .before .before .before .before .before .before .before .if1 .left))
+    (c .before .before .before .before .before .before .if2 .left) (c .before .before .before .before .if3 .left))
+    (c .before .before .report-of .ensures)
 
 pub outcome-spec : {M : Type 1} → statement M
 outcome-spec =
@@ -69,9 +77,9 @@ outcome-spec =
     returns
     shared-slice-read-status
     shared-slice-read-head
-    sub-refusal-of
-    cast-refusal-of
-    refusal-of-requires
+    sub-stuck-refusal
+    cast-stuck-refusal
+    stuck-refusal-requires
     returns-2
     shared-slice-read-if3
     returns-3

@@ -46,7 +46,8 @@ same-length c = search needs
 returns-2 : tie.Need-returns-2
 returns-2 c =
     let s = c .before .before .before .before .before .before .before .before .before .before .before .args in
-    room (s .area .now) (s .out .now) refl (c .before .before .before .before .before .before .before .if1 .left) (c .moves-of .ensures) (c .before .before .before .before .before .write-report .ensures)
+    room (s .area .now) (s .out .now) refl (c .before .before .before .before .before .before .before .if1 .left)
+    (c .moves-of .ensures) (c .before .before .before .before .before .write-report .ensures)
 
 pub report-of-spec : {M : Type 1} → statement M
 report-of-spec =

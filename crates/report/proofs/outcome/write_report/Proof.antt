@@ -1,7 +1,7 @@
 -- `report::outcome::write_report` meets its contract: the reductions copied, and then put in order (OutcomeLaw).
 use native.Mathlib.Omega.{arith}
 use borrow.Author.Needs.{needs}
-use Rattle.area.specs.Layout.{madeAtWord}
+use Rattle.layout.specs.Layout.{madeAtWord}
 use Rattle.report.proofs.OutcomeLaw.{report-written}
 use Rattle.report.proofs.outcome.write_report.Statement.{statement}
 use Rattle.report.proofs.outcome.write_report.Tie as tie
@@ -59,7 +59,8 @@ same-length c = search needs
 
 returns : tie.Need-returns
 returns c = let s = c .before .before .before .before .before .before .before .before .before .before .before .before .before in
-    report-written (s .args .area .now) (s .args .out .now) (madeAtWord (s .args .area .now)) (s .args .count) (omega arith) (c .before .before .before .before .before .before .put-words .ensures) (c .before .before .put-in-order .ensures)
+    report-written (s .args .area .now) (s .args .out .now) (madeAtWord (s .args .area .now)) (s .args .count) (omega arith)
+    (c .before .before .before .before .before .before .put-words .ensures) (c .before .before .put-in-order .ensures)
 
 pub write-report-spec : {M : Type 1} → statement M
 write-report-spec =

@@ -38,9 +38,10 @@ same-length-3 c = search needs
 
 returns-2 : tie.Need-returns-2
 returns-2 c =
-    let a = c .before .before .before .before .before .before .before .before .before .before .before .before .before .before .before .before .before .before .before .before .args in
     let why = c .before .refusal2 .given .0 .0 in
-    let load = c .before .before .before .before .before .before .before .before .before .before .before .before .load in
+    let loaded = c .before .before .before .before .before .before .before .before .before .before .before .before in
+    let load = loaded .load in
+    let a = loaded .before .before .before .before .before .before .before .before .args in
     row-not-started (a .words .now) (a .tokens .now) (a .cuts .now) (a .matrix .now) (a .area .now) (a .entries .now) why (load .last .1 .0)
     (sym (load .ensures .0) ∙ c .before .before .before .before .before .before .before .before .enum-told .given .1)
     (load .ensures .1)
@@ -72,9 +73,11 @@ same-length-6 c = search needs
 
 returns-3 : tie.Need-returns-3
 returns-3 c =
-    let a = c .before .before .before .before .before .before .before .before .before .before .before .before .before .before .before .before .before .before .before .before .before .before .before .before .before .before .before .before .before .before .before .before .before .before .before .args in
-    let load = c .before .before .before .before .before .before .before .before .before .before .before .before .before .before .before .before .before .before .before .before .before .before .before .before .before .before .before .load in
-    let start = c .before .before .before .before .before .before .before .before .before .before .before .before .before .before .before .before .before .before .before .before .start in
+    let started = c .before .before .before .before .before .before .before .before .before .before .before .before .before .before .before .before in
+    let loaded = started .before .before .before .before .before .before .before in
+    let start = started .before .before .before .before .start in
+    let load = loaded .before .before .before .before .load in
+    let a = loaded .before .before .before .before .before .before .before .before .before .before .before .before .args in
     let rest = c .before .before .before .before .before .before .before .before .before .before .before .before .before .each-to-rest in
     let join = c .before .before .before .before .before .before .before .before .join-rightwards in
     let report = c .before .before .report in
@@ -83,9 +86,9 @@ returns-3 c =
     (rest .last .1 .1 .0)
     (join .last .1 .1 .0)
     (report .last .1 .1 .1 .0)
-    (sym (load .ensures .0) ∙ c .before .before .before .before .before .before .before .before .before .before .before .before .before .before .before .before .before .before .before .before .before .before .before .enum-told .given .1)
+    (sym (load .ensures .0) ∙ loaded .enum-told .given .1)
     (load .ensures .1)
-    (sym (start .ensures .0) ∙ c .before .before .before .before .before .before .before .before .before .before .before .before .before .before .before .before .enum-told2 .given .1)
+    (sym (start .ensures .0) ∙ started .enum-told2 .given .1)
     (start .ensures .1)
     (rest .ensures)
     (join .ensures)

@@ -16,5 +16,3 @@ returns c = c .before .before .run .ensures .1
 
 pub to-rest-spec : {M : Type 1} → statement M
 to-rest-spec = tie.close (tie.spec run-requires same-length returns)
-
--- timing 1794738175.531931

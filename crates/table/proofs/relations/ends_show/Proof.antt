@@ -18,7 +18,7 @@ union-of-requires : tie.Need-union-of-requires
 union-of-requires c κs =
     let s = c .before .before in
     let h = passed-laid (s .args .words .now) (s .pre .0) .headed in
-    omega (arith, c .word .ensures .0, h .axioms, h .nonterminals)
+    omega (arith, c .word .ensures, h .axioms, h .nonterminals)
 
 array-write-rows-2 : tie.Need-array-write-rows-2
 array-write-rows-2 c = search needs
@@ -27,7 +27,7 @@ union-of-requires-2 : tie.Need-union-of-requires-2
 union-of-requires-2 c κs =
     let s = c .before .before .before in
     let h = passed-laid (s .args .words .now) (s .pre .0) .headed in
-    omega (arith, c .before .word .ensures .0, h .axioms, h .nonterminals)
+    omega (arith, c .before .word .ensures, h .axioms, h .nonterminals)
 
 array-write-rows-3 : tie.Need-array-write-rows-3
 array-write-rows-3 c = search needs
@@ -37,7 +37,7 @@ unfolding grammarOf
 returns c =
     let s = c .before .before .before .before in
     let a = s .args in
-    let axioms : c .before .before .word .result ≡ countA (a .words .now) = c .before .before .word .ensures .0 in
+    let axioms : c .before .before .word .result ≡ countA (a .words .now) = c .before .before .word .ensures in
     ends-seen (grammarOf (a .words .now)) (a .left .now) (a .right .now) (s .pre .1) (c .before .union-of .result) (c .union-of2 .result)
     (rw axioms at (c .before .union-of .ensures)) (rw axioms at (c .union-of2 .ensures))
 

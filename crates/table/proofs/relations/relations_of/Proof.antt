@@ -35,7 +35,7 @@ rule-shows-requires : tie.Need-rule-shows-requires Inv-loop μ-loop
 rule-shows-requires c κs =
     let sets = c .before .before .before .before .before .before in (
       c .before .before .before .before .before .before .before .before .before .before .pre,
-      omega (arith, c .before .before .before .word .ensures .0),
+      omega (arith, c .before .before .before .word .ensures),
       record { lefts = sets .before .before .masks .ensures; rights = sets .masks2 .ensures },
       c .before .before .loop .inv .1 .long,
     )
@@ -53,7 +53,7 @@ returns : tie.Need-returns Inv-loop μ-loop
 returns c =
     let words = c .before .before .before .before .before .before .before .before .before .args .words .now in
     let l = c .before .loop in
-    let all : l .r ≡ length (grammarOf words .rules) = omega (arith, c .before .before .word .ensures .0, rules-count words) in
+    let all : l .r ≡ length (grammarOf words .rules) = omega (arith, c .before .before .word .ensures, rules-count words) in
     shows (rw all at (l .inv .1))
 
 pub relations-of-spec : {M : Type 1} → statement M

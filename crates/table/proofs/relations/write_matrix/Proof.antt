@@ -95,8 +95,12 @@ long c = ap length (c .table-of .ensures) ∙ length-tabulate (markedAt (grammar
 
 loop2-again : tie.Need-loop2-again Inv-loop μ-loop Inv-loop2 μ-loop2
 loop2-again c =
-    let l = c .before .loop2 in
-    (omega arith, simp length-set (l .inv .1), copied-more (c .before .before .before .before .before .table-of .result) (c .before .before .before .before .before .before .before .before .args .matrix .now) 4096 (long (c .before .before .before .before .before)) (c .before .before .if2 .left) (l .at) (l .matrix) (c .loop2-test .taken) (l .inv .2))
+    let l = c .before .loop2 in (
+      omega arith,
+      simp length-set (l .inv .1),
+      copied-more (c .before .before .before .before .before .table-of .result) (c .before .before .before .before .before .before .before .before .args .matrix .now)
+          4096 (long (c .before .before .before .before .before)) (c .before .before .if2 .left) (l .at) (l .matrix) (c .loop2-test .taken) (l .inv .2),
+    )
 
 same-length : tie.Need-same-length Inv-loop μ-loop Inv-loop2 μ-loop2
 same-length c = c .before .loop2 .inv .1
@@ -111,7 +115,8 @@ returns-3 c =
     let free = clear (c .before .before .before) in
     let room = c .before .before .if2 .left in
     loads words bytes (l .matrix) (t .result) (done-load words (length bytes) (s .pre) free room)
-    (copied-whole (t .result) bytes 4096 (long (c .before .before .before .before .before)) room (l .at) (l .matrix) (c .loop2-test .left) (l .inv .0) (l .inv .2)) (t .ensures ∙ marked-matrix (grammarOf words) free)
+    (copied-whole (t .result) bytes 4096 (long (c .before .before .before .before .before)) room (l .at) (l .matrix) (c .loop2-test .left) (l .inv .0) (l .inv .2))
+    (t .ensures ∙ marked-matrix (grammarOf words) free)
 
 pub write-matrix-spec : {M : Type 1} → statement M
 write-matrix-spec =

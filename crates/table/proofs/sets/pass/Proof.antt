@@ -25,7 +25,7 @@ gain-requires : tie.Need-gain-requires Inv-loop μ-loop
 gain-requires c κs =
     let s = c .before .before .before .before .before in
     let l = c .before .before .loop in
-    (s .pre .0, omega (arith, c .before .before .before .word .ensures .0), l .inv .1 .rows)
+    (s .pre .0, omega (arith, c .before .before .before .word .ensures), l .inv .1 .rows)
 
 add-r : tie.Need-add-r Inv-loop μ-loop
 add-r c = omega arith
@@ -39,7 +39,7 @@ loop-again c =
     let a = s .args in
     let l = c .before .before .before .loop in
     let g = c .gain in
-    let below : l .r < countR (a .words .now) = omega (arith, c .before .before .before .before .word .ensures .0) in (
+    let below : l .r < countR (a .words .now) = omega (arith, c .before .before .before .before .word .ensures) in (
       omega arith,
       rw (g .ensures .0) (gained-sound (side-rules (a .words .now) (s .pre .0) (a .from-end)) (l .masks) (l .r) below (l .inv .1 .rows) (l .inv .1)),
       grown-more (gained (a .words .now) (a .from-end)) (a .masks .now) (l .masks) (g .last .1 .0) (l .r) (g .ensures .0) (l .inv .2) (g .ensures .1),
@@ -48,7 +48,7 @@ loop-again c =
 returns : tie.Need-returns Inv-loop μ-loop
 returns c =
     let l = c .before .loop in
-    let e : l .r ≡ countR (c .before .before .before .before .args .words .now) = omega (arith, c .before .before .word .ensures .0) in
+    let e : l .r ≡ countR (c .before .before .before .before .args .words .now) = omega (arith, c .before .before .word .ensures) in
     (l .inv .1, rw e at (l .inv .2))
 
 pub pass-spec : {M : Type 1} → statement M

@@ -29,7 +29,9 @@ returns-2 c =
     let h = held (a .state) (a .words .now) (a .tokens .now) (a .cuts .now) in
     let l = c .before .kept .last .1 .1 in
     let k = held (c .before .kept .result) (l .0) (l .1 .0) (l .1 .1 .0) in
-    ended-kept h k (a .value) (a .byte) (c .followed .result) (sym (c .before .before .before .before .before .before .full .ensures) ∙ c .before .before .before .before .before .if1 .left) (c .before .kept .ensures) (c .followed .ensures)
+    ended-kept h k (a .value) (a .byte) (c .followed .result)
+    (sym (c .before .before .before .before .before .before .full .ensures) ∙ c .before .before .before .before .before .if1 .left)
+    (c .before .kept .ensures) (c .followed .ensures)
 
 pub ended-spec : {M : Type 1} → statement M
 ended-spec = tie.close (tie.spec full-requires in-phase-requires returns kept-requires followed-requires returns-2)

@@ -54,7 +54,8 @@ returns-3 c =
     let h = held (a .state) (a .words .now) (a .tokens .now) (a .cuts .now) in
     let v = c .before .before .before .before .before .before .before .phase .given in
     let l = c .ended .last .1 .1 .1 in
-    fed-ended h (a .byte) (v .0 .0) (held (c .ended .result) (l .0) (l .1 .0) (l .1 .1 .0)) (v .1) (sym (c .before .before .before .before .before .is-digit .ensures) ∙ c .before .before .before .before .if1 .left) (c .ended .ensures)
+    fed-ended h (a .byte) (v .0 .0) (held (c .ended .result) (l .0) (l .1 .0) (l .1 .1 .0)) (v .1)
+    (sym (c .before .before .before .before .before .is-digit .ensures) ∙ c .before .before .before .before .if1 .left) (c .ended .ensures)
 
 returns-4 : tie.Need-returns-4
 returns-4 c =

@@ -9,7 +9,8 @@ use Rattle.text.proofs.reading.feed_piece.Statement.{statement}
 use Rattle.text.proofs.reading.feed_piece.Tie as tie
 
 abbrev Inv-loop : tie.InvT-loop
-Inv-loop piece words₀ tokens₀ cuts₀ read₀ i₀ words tokens cuts read i = (i ≤ length piece) × (fedAll (held read₀ words₀ tokens₀ cuts₀) piece ≡ fedAll (held read words tokens cuts) (drop i piece))
+Inv-loop piece words₀ tokens₀ cuts₀ read₀ i₀ words tokens cuts read i = (i ≤ length piece)
+    × (fedAll (held read₀ words₀ tokens₀ cuts₀) piece ≡ fedAll (held read words tokens cuts) (drop i piece))
 
 abbrev μ-loop : tie.MeasureT-loop
 μ-loop piece words₀ tokens₀ cuts₀ read₀ i₀ words tokens cuts read i = length piece - i
@@ -32,8 +33,11 @@ loop-less c = omega arith
 loop-again : tie.Need-loop-again Inv-loop μ-loop
 loop-again c = let a = c .before .before .before .before .before .before .loop in
     let piece = c .before .before .before .before .before .before .before .before .args .piece .now in
-    let next = held (c .feed .result) (c .feed .last .1 .1 .0) (c .feed .last .1 .1 .1 .0) (c .feed .last .1 .1 .1 .1 .0) in
-    (omega arith, a .inv .1 ∙ fed-more (held (a .read) (a .words) (a .tokens) (a .cuts)) next piece (a .i) (c .before .before .before .before .before .loop-test .taken) (c .feed .ensures))
+    let next = held (c .feed .result) (c .feed .last .1 .1 .0) (c .feed .last .1 .1 .1 .0) (c .feed .last .1 .1 .1 .1 .0) in (
+      omega arith,
+      a .inv .1
+          ∙ fed-more (held (a .read) (a .words) (a .tokens) (a .cuts)) next piece (a .i) (c .before .before .before .before .before .loop-test .taken) (c .feed .ensures),
+    )
 
 returns : tie.Need-returns Inv-loop μ-loop
 returns c =

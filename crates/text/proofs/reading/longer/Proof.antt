@@ -1,7 +1,7 @@
 -- `longer` works the value out in 32 bits, where it cannot pass the limit of the type, and then tests it.
 use borrow.Author.Needs.{needs}
 use borrow.Author.Tests.{le-leb, lt-leb}
-use Rattle.text.specs.ReadingLaws.{digit-range}
+use Rattle.laws.specs.Decimals.{digit-range}
 use Rattle.text.proofs.reading.longer.Statement.{statement}
 use Rattle.text.proofs.reading.longer.Tie as tie
 

@@ -19,7 +19,8 @@ returns c =
     let a = c .before .before .before .before .before .before .before .args in
     let f = c .before .feed-piece in
     let l = f .last .1 .1 in
-    let r = text-answered (a .words .now) (a .tokens .now) (a .cuts .now) (a .text .now) (c .before .before .before .before .before .start .result) (f .result) (l .0) (l .1 .0) (l .1 .1 .0) (c .before .before .before .before .before .start .ensures) (f .ensures) in
+    let begun = c .before .before .before .before .before .start in
+    let r = text-answered (a .words .now) (a .tokens .now) (a .cuts .now) (a .text .now) (begun .result) (f .result) (l .0) (l .1 .0) (l .1 .1 .0) (begun .ensures) (f .ensures) in
     (c .finish .ensures ∙ r .0, r .1)
 
 pub read-text-spec : {M : Type 1} → statement M

@@ -1,7 +1,7 @@
 -- `started` tests for a digit.
 use mathlib.Core.Path.{sym, _∙_}
 use borrow.Author.Needs.{needs}
-use Rattle.text.specs.ReadingLaws.{digit-range}
+use Rattle.laws.specs.Decimals.{digit-range}
 use Rattle.text.proofs.reading.started.Statement.{statement}
 use Rattle.text.proofs.reading.started.Tie as tie
 

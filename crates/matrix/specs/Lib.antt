@@ -1,0 +1,3 @@
+pub mod EndMarkOfShape
+pub mod GrammarShape
+pub mod WordsOfShape

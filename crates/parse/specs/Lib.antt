@@ -1,0 +1,3 @@
+pub mod ParseCall
+pub mod ParseGiven
+pub mod ParseLaws

@@ -1,0 +1,63 @@
+-- `first_bad_token` has passed only tokens within 1..t.
+use Prim.Native.Nat.{_-_}
+use native.Mathlib.Omega.{arith}
+use lib.ListN.{length}
+use Rattle.start.specs.Start.{badTokenAt}
+use Rattle.start.specs.StartChecks.{Clear, clear-more, stopped, passed}
+use borrow.Author.Needs.{needs}
+use Rattle.start.proofs.begin.first_bad_token.Statement.{statement}
+use Rattle.start.proofs.begin.first_bad_token.Tie as tie
+
+abbrev Inv-loop : tie.InvT-loop
+Inv-loop tokens t i₀ i = Clear (badTokenAt t tokens) i
+
+abbrev μ-loop : tie.MeasureT-loop
+μ-loop tokens t i₀ i = length tokens - i
+
+loop-holds : tie.Need-loop-holds Inv-loop μ-loop
+loop-holds c = λ k h. absurd (omega arith)
+
+mul-token : tie.Need-mul-token Inv-loop μ-loop
+mul-token c = search needs
+
+shared-slice-read-token : tie.Need-shared-slice-read-token Inv-loop μ-loop
+shared-slice-read-token c = c .before .loop-test .taken
+
+returns : tie.Need-returns Inv-loop μ-loop
+returns c =
+    let a = c .before .before .before .before .args in
+    let l = c .before .before .before .loop in
+    stopped (badTokenAt (a .t) (a .tokens .now)) (length (a .tokens .now)) (l .i) (l .inv) (c .before .before .loop-test .taken) (c .if1 .taken)
+
+add-i : tie.Need-add-i Inv-loop μ-loop
+add-i c = omega arith
+
+loop-less : tie.Need-loop-less Inv-loop μ-loop
+loop-less c = omega arith
+
+loop-again : tie.Need-loop-again Inv-loop μ-loop
+loop-again c =
+    let a = c .before .before .before .before .args in
+    let l = c .before .before .before .loop in
+    clear-more (badTokenAt (a .t) (a .tokens .now)) (l .i) (l .inv) (c .if1 .left)
+
+returns-2 : tie.Need-returns-2 Inv-loop μ-loop
+returns-2 c =
+    let a = c .before .before .args in
+    let l = c .before .loop in
+    passed (badTokenAt (a .t) (a .tokens .now)) (length (a .tokens .now)) (l .i) (l .inv) (c .loop-test .left)
+
+pub first-bad-token-spec : {M : Type 1} → statement M
+first-bad-token-spec =
+    tie.close
+    (tie.spec
+    Inv-loop
+    μ-loop
+    loop-holds
+    mul-token
+    shared-slice-read-token
+    returns
+    add-i
+    loop-less
+    loop-again
+    returns-2)

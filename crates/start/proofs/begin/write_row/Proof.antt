@@ -1,0 +1,76 @@
+-- `write_row` stores the five words of a chunk's row.
+use native.Mathlib.Numerals.{add-one, add-two, add-three, add-four}
+use native.Mathlib.Omega.{arith}
+use borrow.Author.Needs.{needs}
+use lib.ListN.{length-set}
+use Rattle.start.proofs.begin.write_row.Statement.{statement}
+use Rattle.start.proofs.begin.write_row.Tie as tie
+
+mul-area : tie.Need-mul-area
+mul-area c = search needs
+
+slice-write-area : tie.Need-slice-write-area
+slice-write-area c = search needs
+
+add-area : tie.Need-add-area
+add-area c = search needs
+
+mul-area-2 : tie.Need-mul-area-2
+mul-area-2 c = search needs
+
+slice-write-area-2 : tie.Need-slice-write-area-2
+slice-write-area-2 c = simp length-set (omega arith)
+
+add-area-2 : tie.Need-add-area-2
+add-area-2 c = search needs
+
+mul-area-3 : tie.Need-mul-area-3
+mul-area-3 c = search needs
+
+slice-write-area-3 : tie.Need-slice-write-area-3
+slice-write-area-3 c = simp length-set (omega arith)
+
+add-area-3 : tie.Need-add-area-3
+add-area-3 c = search needs
+
+mul-area-4 : tie.Need-mul-area-4
+mul-area-4 c = search needs
+
+slice-write-area-4 : tie.Need-slice-write-area-4
+slice-write-area-4 c = simp length-set (omega arith)
+
+add-area-4 : tie.Need-add-area-4
+add-area-4 c = search needs
+
+mul-area-5 : tie.Need-mul-area-5
+mul-area-5 c = search needs
+
+slice-write-area-5 : tie.Need-slice-write-area-5
+slice-write-area-5 c = simp length-set (omega arith)
+
+same-length : tie.Need-same-length
+same-length c = search needs
+
+returns : tie.Need-returns
+returns c = simp (add-one, add-two, add-three, add-four)
+
+pub write-row-spec : {M : Type 1} → statement M
+write-row-spec =
+    tie.close
+    (tie.spec
+    mul-area
+    slice-write-area
+    add-area
+    mul-area-2
+    slice-write-area-2
+    add-area-2
+    mul-area-3
+    slice-write-area-3
+    add-area-3
+    mul-area-4
+    slice-write-area-4
+    add-area-4
+    mul-area-5
+    slice-write-area-5
+    same-length
+    returns)

@@ -1,0 +1,4 @@
+pub mod Start
+pub mod StartChecks
+pub mod StartKept
+pub mod StartWords
