@@ -4,7 +4,10 @@ pub mod AtHand
 pub mod BlockWords
 pub mod CallLaws
 pub mod Calls
+pub mod Clearing
+pub mod Comparing
 pub mod HandleSlots
+pub mod Hands
 pub mod JoinCalls
 pub mod JoinLaw
 pub mod KeptAround
@@ -21,8 +24,13 @@ pub mod ReadCall
 pub mod ReadLaw
 pub mod ReadWords
 pub mod Readings
+pub mod Ready
 pub mod ReduceLaw
 pub mod RunMoves
+pub mod Searches
 pub mod ShapeKept
 pub mod StackWords
 pub mod StickLaw
+pub mod Walks
+pub mod WholeStack
+pub mod Zeroing

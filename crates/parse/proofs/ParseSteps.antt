@@ -13,7 +13,7 @@ use Rattle.layout.specs.Layout.{zeros, madeAtWord, readMade}
 use Rattle.outcomes.specs.EntryWords.{entries-part}
 use Rattle.outcomes.specs.OutcomeWords.{noneLive}
 use Rattle.moving.specs.MoveWords.{clearedWords}
-use Rattle.reader.proofs.Zeroing.{zeroed-next}
+use Rattle.moving.specs.Zeroing.{zeroed-next}
 use Rattle.parse.specs.ParseLaws.{Finished}
 
 from-the-front : (area : List ℕ) (k : ℕ) → clearedWords area 0 k ≡ zeros k ++ drop k area

@@ -1,6 +1,6 @@
 -- Grammar K of document 01 is accepted, so every theorem of demands 2 and 3 speaks of it with no hypothesis left.
 -- Document 01, "Sample rows". Computed from the definitions.
--- Rests on machine's TableOf, and on language's Loads, CheckSamples and Samples.
+-- Rests on SamplesK, on machine's TableOf, and on language's Loads and CheckSamples.
 --
 -- Main statements: K-accepted, K-laws, K-end-mark.
 use lib.Dec.{lit<}
@@ -9,7 +9,7 @@ use Rattle.language.specs.Checks.{words-pass}
 use Rattle.language.specs.CheckSamples.{wordsK, K-passes}
 use Rattle.language.specs.WordsInRange.{in-range}
 use Rattle.language.specs.Conflicts.{conflict-none}
-use Rattle.language.specs.Samples.{words-K, conflict-K}
+use Rattle.results.specs.SamplesK.{words-K, conflict-K}
 use Rattle.language.specs.Loads.{Accepted}
 use Rattle.machine.specs.Laws.{EndMark, Laws}
 use Rattle.machine.specs.TableOf.{ownTable, own-end-mark, own-laws}

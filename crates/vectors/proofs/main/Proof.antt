@@ -22,93 +22,71 @@ Inv-loop words₀ matrix₀ count₀ left₀ words matrix count left = (length w
 abbrev μ-loop : tie.MeasureT-loop
 μ-loop words₀ matrix₀ count₀ left₀ words matrix count left = left
 
--- src/main.rt:27:5
 loop-holds : tie.Need-loop-holds Inv-loop μ-loop
 loop-holds c = search needs
 
--- src/main.rt:28:13
 next-word-requires : tie.Need-next-word-requires Inv-loop μ-loop
 next-word-requires c κs = tt
 
--- src/main.rt:30:13
 returns : tie.Need-returns Inv-loop μ-loop
 returns c = tt
 
--- src/main.rt:32:9
 sub-left : tie.Need-sub-left Inv-loop μ-loop
 sub-left c = search needs
 
--- src/main.rt:34:41
 slice-aggregate-new-grammar : tie.Need-slice-aggregate-new-grammar Inv-loop μ-loop
 slice-aggregate-new-grammar c = search needs
 
--- src/main.rt:34:13
 new-grammar-requires : tie.Need-new-grammar-requires Inv-loop μ-loop
 new-grammar-requires c κs = tt
 
--- src/main.rt:27:5
 loop-less : tie.Need-loop-less Inv-loop μ-loop
 loop-less c = search needs
 
--- src/main.rt:27:5
 loop-again : tie.Need-loop-again Inv-loop μ-loop
 loop-again c = search needs
 
--- src/main.rt:36:38
 array-share-prefix-words : tie.Need-array-share-prefix-words Inv-loop μ-loop
 array-share-prefix-words c = search needs
 
--- src/main.rt:36:38
 slice-aggregate-table-case : tie.Need-slice-aggregate-table-case Inv-loop μ-loop
 slice-aggregate-table-case c = simp length-take (omega arith)
 
--- src/main.rt:36:13
 table-case-requires : tie.Need-table-case-requires Inv-loop μ-loop
 table-case-requires c κs = tt
 
--- src/main.rt:27:5
 loop-less-2 : tie.Need-loop-less-2 Inv-loop μ-loop
 loop-less-2 c = search needs
 
--- src/main.rt:27:5
 loop-again-2 : tie.Need-loop-again-2 Inv-loop μ-loop
 loop-again-2 c = search needs
 
--- src/main.rt:38:39
 array-borrow-prefix-words : tie.Need-array-borrow-prefix-words Inv-loop μ-loop
 array-borrow-prefix-words c = search needs
 
--- src/main.rt:38:39
 slice-aggregate-row-case : tie.Need-slice-aggregate-row-case Inv-loop μ-loop
 slice-aggregate-row-case c = simp length-take (omega arith)
 
--- src/main.rt:38:13
 row-case-requires : tie.Need-row-case-requires Inv-loop μ-loop
 row-case-requires c κs = tt
 
--- src/main.rt:27:5
 loop-less-3 : tie.Need-loop-less-3 Inv-loop μ-loop
 loop-less-3 c = search needs
 
--- src/main.rt:27:5
 loop-again-3 : tie.Need-loop-again-3 Inv-loop μ-loop
 loop-again-3 c =
     let s = c .before .before .before .before .before .before .before .before .before .before .loop in
     (length-front (s .words) (c .before .row-case .last .1 .0) (s .count) (c .before .row-case .kept .1 .0) ∙ s .inv .0, s .inv .1)
 
--- src/main.rt:40:13
 other-case-requires : tie.Need-other-case-requires Inv-loop μ-loop
 other-case-requires c κs = tt
 
--- src/main.rt:27:5
 loop-less-4 : tie.Need-loop-less-4 Inv-loop μ-loop
 loop-less-4 c = search needs
 
--- src/main.rt:27:5
 loop-again-4 : tie.Need-loop-again-4 Inv-loop μ-loop
 loop-again-4 c = search needs
 
--- src/main.rt:22:1
 returns-2 : tie.Need-returns-2 Inv-loop μ-loop
 returns-2 c = tt
 

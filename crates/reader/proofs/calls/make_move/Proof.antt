@@ -6,7 +6,7 @@ use Prim.Native.Nat.{ℕ}
 use Rattle.moving.specs.MoveWords.{tickWords}
 use Rattle.moving.specs.OneMove.{can-stick}
 use Rattle.moving.specs.Moved.{Moved, counted}
-use Rattle.reader.proofs.Hands.{hand-counted, still-few, hand-ticks}
+use Rattle.moving.specs.Hands.{hand-counted, still-few, hand-ticks}
 use Rattle.reader.proofs.calls.make_move.Statement.{statement}
 use Rattle.reader.proofs.calls.make_move.Tie as tie
 

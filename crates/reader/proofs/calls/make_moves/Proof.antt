@@ -6,7 +6,7 @@ use Prim.Native.Nat.{_-_}
 use lib.ListN.{length}
 use Rattle.moving.specs.AtHand.{AtHand}
 use Rattle.moving.specs.RunMoves.{Runnable, Underway, underway, underway-listed, underway-movable, underway-more, underway-rests, underway-spent}
-use Rattle.reader.proofs.Hands.{hand-rests}
+use Rattle.moving.specs.Hands.{hand-rests}
 use borrow.Author.Needs.{needs}
 use Rattle.reader.proofs.calls.make_moves.Statement.{statement}
 use Rattle.reader.proofs.calls.make_moves.Tie as tie

@@ -2,7 +2,7 @@
 use native.Mathlib.Omega.{arith}
 use mathlib.Core.Path.{refl}
 use lib.ListN.{length-set}
-use Rattle.reader.proofs.Hands.{hand-stuck}
+use Rattle.moving.specs.Hands.{hand-stuck}
 use borrow.Author.Needs.{needs}
 use Rattle.reader.proofs.calls.moved.Statement.{statement}
 use Rattle.reader.proofs.calls.moved.Tie as tie

@@ -2,7 +2,7 @@
 use native.Mathlib.Omega.{arith}
 use lib.ListN.{length-set}
 use mathlib.Core.Path.{refl}
-use Rattle.reader.proofs.Hands.{hand-accepted}
+use Rattle.moving.specs.Hands.{hand-accepted}
 use Rattle.reader.proofs.moves.accept.Statement.{statement}
 use Rattle.reader.proofs.moves.accept.Tie as tie
 

@@ -1,5 +1,5 @@
 -- `moves::clear` meets its contract: the loop's invariant: the blocks from `at` on are cleared (`Clearing`). The measure is `at`.
-use Rattle.reader.proofs.Clearing.{Clearing, clearing, clearing-more, clearing-done, clearing-tagged}
+use Rattle.moving.specs.Clearing.{Clearing, clearing, clearing-more, clearing-done, clearing-tagged}
 use native.Mathlib.Omega.{arith}
 use mathlib.Core.Path.{_≡_, refl}
 use lib.ListN.{length, length-set}

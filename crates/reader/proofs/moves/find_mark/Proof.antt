@@ -1,5 +1,5 @@
 -- `moves::find_mark` meets its contract: the loop's invariant: whatever stack stands there, its topmost mark is in what is left (`Down`). The measure is `at`.
-use Rattle.reader.proofs.Walks.{Down, down-begins, down-none, down-ends, down-under, below-start, below-here, below-ends, mark-found, mark-more}
+use Rattle.moving.specs.Walks.{Down, down-begins, down-none, down-ends, down-under, below-start, below-here, below-ends, mark-found, mark-more}
 use Rattle.moving.specs.ReadWords.{Holds, Stacked, handleBelow}
 use Rattle.machine.specs.Entries.{Entry}
 use Rattle.language.specs.Trees.{Span}

@@ -5,9 +5,9 @@ use mathlib.Core.List.{List}
 use Prim.Native.Nat.{ℕ}
 use lib.ListN.{length-set}
 use Rattle.moving.specs.MoveWords.{tickWords, joinWords, Ticks}
-use Rattle.reader.proofs.Ready.{one-ready}
-use Rattle.reader.proofs.Hands.{hand-counted}
-use Rattle.reader.proofs.Zeroing.{one-zeroed}
+use Rattle.moving.specs.Ready.{one-ready}
+use Rattle.moving.specs.Hands.{hand-counted}
+use Rattle.moving.specs.Zeroing.{one-zeroed}
 use Rattle.reader.proofs.moves.join_chunks.Statement.{statement}
 use Rattle.reader.proofs.moves.join_chunks.Tie as tie
 

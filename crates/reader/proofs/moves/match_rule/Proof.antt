@@ -1,7 +1,7 @@
 -- `moves::match_rule` meets its contract: the outer loop's invariant: the search from rule 0 is the search from `next`. The inner one's: the rest of
 -- the right side against the rest of the handle decides, and they are equally long. The measures: the rules left, the slots left.
-use Rattle.reader.proofs.Comparing.{same-length, same-there, counts-on, same-past, same-differ, same-both}
-use Rattle.reader.proofs.Searches.{first-here, first-past, first-end}
+use Rattle.moving.specs.Comparing.{same-length, same-there, counts-on, same-past, same-differ, same-both}
+use Rattle.moving.specs.Searches.{first-here, first-past, first-end}
 use Rattle.moving.specs.MatchWords.{Whole, hasRight, sameWords, handleWords, matchWords, matchedOf, whole-le, whole-size, whole-rest}
 use Rattle.laws.specs.Least.{firstFrom}
 use native.Mathlib.Numerals.{add-one}

@@ -1,5 +1,5 @@
 -- `moves::next_live` meets its contract: the loop's invariant: the search from the number after c is the search from d.
-use Rattle.reader.proofs.Searches.{first-here, first-past, first-end}
+use Rattle.moving.specs.Searches.{first-here, first-past, first-end}
 use borrow.Author.Tests.{lt-ltb, le-ltb}
 use Rattle.laws.specs.Least.{firstFrom}
 use Rattle.moving.specs.ReadWords.{nextOf, liveAt, liveAfter}

@@ -2,7 +2,7 @@
 use native.Mathlib.Omega.{arith}
 use lib.ListN.{length-set}
 use mathlib.Core.Path.{refl}
-use Rattle.reader.proofs.Hands.{hand-pushed}
+use Rattle.moving.specs.Hands.{hand-pushed}
 use Rattle.reader.proofs.moves.push.Statement.{statement}
 use Rattle.reader.proofs.moves.push.Tie as tie
 

@@ -3,7 +3,7 @@ use native.Mathlib.Omega.{arith}
 use lib.ListN.{length-set}
 use mathlib.Core.Path.{refl, _∙_}
 use Rattle.layout.specs.Layout.{tableAt}
-use Rattle.reader.proofs.Hands.{over-roomy, hand-reduced}
+use Rattle.moving.specs.Hands.{over-roomy, hand-reduced}
 use Rattle.reader.proofs.moves.reduce.Statement.{statement}
 use Rattle.reader.proofs.moves.reduce.Tie as tie
 

@@ -4,7 +4,7 @@ use mathlib.Core.Path.{_≡_}
 use native.Mathlib.Omega.{arith}
 use lib.ListN.{length}
 use Rattle.moving.specs.MatchWords.{Whole, handleWords, whole-le, whole-size, whole-rest}
-use Rattle.reader.proofs.Comparing.{count-more, count-none}
+use Rattle.moving.specs.Comparing.{count-more, count-none}
 use Rattle.reader.proofs.moves.symbols_on.Statement.{statement}
 use Rattle.reader.proofs.moves.symbols_on.Tie as tie
 

@@ -1,5 +1,5 @@
 -- `moves::top_terminal` meets its contract: the loop's invariant: whatever stack stands there, its topmost terminal is in what is left (`Down`). The measure is `at`.
-use Rattle.reader.proofs.Walks.{Down, down-begins, down-none, down-ends, top-found, top-more}
+use Rattle.moving.specs.Walks.{Down, down-begins, down-none, down-ends, top-found, top-more}
 use Rattle.moving.specs.ReadWords.{Holds, topOf}
 use Rattle.machine.specs.Entries.{Entry, topTerminal}
 use Rattle.language.specs.Trees.{Span}

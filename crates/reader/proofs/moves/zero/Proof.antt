@@ -4,7 +4,7 @@ use Prim.Native.Nat.{_+_, _-_, _≤_}
 use native.Mathlib.Omega.{arith}
 use lib.ListN.{set, length, length-set}
 use Rattle.moving.specs.MoveWords.{clearedWords}
-use Rattle.reader.proofs.Zeroing.{zeroed-none, zeroed-next}
+use Rattle.moving.specs.Zeroing.{zeroed-none, zeroed-next}
 use Rattle.reader.proofs.moves.zero.Statement.{statement}
 use Rattle.reader.proofs.moves.zero.Tie as tie
 

@@ -16,35 +16,27 @@ Inv-loop run₀ word i₀ run i = (i ≤ length run) × (length run ≡ length r
 abbrev μ-loop : tie.MeasureT-loop
 μ-loop run₀ word i₀ run i = length run - i
 
--- src/input.rt:83:5
 loop-holds : tie.Need-loop-holds Inv-loop μ-loop
 loop-holds c = search needs
 
--- src/input.rt:84:9
 mul-run : tie.Need-mul-run Inv-loop μ-loop
 mul-run c = search needs
 
--- src/input.rt:84:9
 slice-write-run : tie.Need-slice-write-run Inv-loop μ-loop
 slice-write-run c = search needs
 
--- src/input.rt:85:9
 add-i : tie.Need-add-i Inv-loop μ-loop
 add-i c = search needs
 
--- src/input.rt:83:5
 loop-less : tie.Need-loop-less Inv-loop μ-loop
 loop-less c = simp length-set (omega arith)
 
--- src/input.rt:83:5
 loop-again : tie.Need-loop-again Inv-loop μ-loop
 loop-again c = simp length-set (omega arith)
 
--- src/input.rt:81:1
 same-length : tie.Need-same-length Inv-loop μ-loop
 same-length c = search needs
 
--- src/input.rt:81:1
 returns : tie.Need-returns Inv-loop μ-loop
 returns c = tt
 

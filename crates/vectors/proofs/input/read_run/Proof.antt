@@ -17,35 +17,27 @@ Inv-loop run₀ left₀ at₀ run left at = (length run ≡ length run₀) × (a
 abbrev μ-loop : tie.MeasureT-loop
 μ-loop run₀ left₀ at₀ run left at = left
 
--- src/input.rt:65:9
 next-word-requires : tie.Need-next-word-requires Inv-loop μ-loop
 next-word-requires c κs = tt
 
--- src/input.rt:67:5
 loop-holds : tie.Need-loop-holds Inv-loop μ-loop
 loop-holds c = search needs
 
--- src/input.rt:68:9
 read-piece-requires : tie.Need-read-piece-requires Inv-loop μ-loop
 read-piece-requires c κs = search needs
 
--- src/input.rt:69:9
 sub-left : tie.Need-sub-left Inv-loop μ-loop
 sub-left c = search needs
 
--- src/input.rt:67:5
 loop-less : tie.Need-loop-less Inv-loop μ-loop
 loop-less c = search needs
 
--- src/input.rt:67:5
 loop-again : tie.Need-loop-again Inv-loop μ-loop
 loop-again c = search needs
 
--- src/input.rt:62:1
 same-length : tie.Need-same-length Inv-loop μ-loop
 same-length c = search needs
 
--- src/input.rt:62:1
 returns : tie.Need-returns Inv-loop μ-loop
 returns c = search needs
 

@@ -11,43 +11,33 @@ use Rattle.vectors.proofs.rows.entries_case.Lts as lts
 use Rattle.vectors.proofs.input.read_run.Reads as read-run-reads
 use Rattle.vectors.proofs.rows.show_entries.Reads as show-entries-reads
 
--- src/rows.rt:261:29
 slice-aggregate-read-run : tie.Need-slice-aggregate-read-run
 slice-aggregate-read-run c = refl
 
--- src/rows.rt:261:9
 read-run-requires : tie.Need-read-run-requires
 read-run-requires c κs = tt
 
--- src/rows.rt:262:32
 slice-aggregate-read-run-2 : tie.Need-slice-aggregate-read-run-2
 slice-aggregate-read-run-2 c = refl
 
--- src/rows.rt:262:9
 read-run-requires-2 : tie.Need-read-run-requires-2
 read-run-requires-2 c κs = tt
 
--- src/rows.rt:263:18
 array-share-prefix-report : tie.Need-array-share-prefix-report
 array-share-prefix-report c = omega arith
 
--- src/rows.rt:263:18
 slice-aggregate-show-entries : tie.Need-slice-aggregate-show-entries
 slice-aggregate-show-entries c = sym (length-take-le _ _ (array-share-prefix-report (c .before)))
 
--- src/rows.rt:263:35
 array-share-prefix-tokens : tie.Need-array-share-prefix-tokens
 array-share-prefix-tokens c = omega arith
 
--- src/rows.rt:263:35
 slice-aggregate-show-entries-2 : tie.Need-slice-aggregate-show-entries-2
 slice-aggregate-show-entries-2 c = sym (length-take-le _ _ (array-share-prefix-tokens (c .before)))
 
--- src/rows.rt:263:5
 show-entries-requires : tie.Need-show-entries-requires
 show-entries-requires c κs = tt
 
--- src/rows.rt:258:1
 returns : tie.Need-returns
 returns c = tt
 

@@ -10,39 +10,30 @@ use Rattle.vectors.proofs.rows.out_call.Lts as lts
 use Rattle.vectors.proofs.input.next_word.Reads as next-word-reads
 use Rattle.vectors.proofs.rows.report_call.Reads as report-call-reads
 
--- src/rows.rt:100:16
 next-word-requires : tie.Need-next-word-requires
 next-word-requires c κs = tt
 
--- src/rows.rt:100:16
 cast-room : tie.Need-cast-room
 cast-room c = search needs
 
--- src/rows.rt:102:9
 returns : tie.Need-returns
 returns c = tt
 
--- src/rows.rt:111:9
 slice-relend-prefix-report-call : tie.Need-slice-relend-prefix-report-call
 slice-relend-prefix-report-call c = search needs
 
--- src/rows.rt:111:9
 slice-aggregate-report-call : tie.Need-slice-aggregate-report-call
 slice-aggregate-report-call c = simp length-take (omega arith)
 
--- src/rows.rt:104:5
 report-call-requires : tie.Need-report-call-requires
 report-call-requires c κs = tt
 
--- src/rows.rt:90:1
 same-length : tie.Need-same-length
 same-length c = search needs
 
--- src/rows.rt:90:1
 same-length-2 : tie.Need-same-length-2
 same-length-2 c = search needs
 
--- src/rows.rt:90:1
 returns-2 : tie.Need-returns-2
 returns-2 c = tt
 

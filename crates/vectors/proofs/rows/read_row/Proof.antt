@@ -23,55 +23,42 @@ Inv-loop2 words matrix area₀ chunks c joined₀ area joined = length area ≡ 
 abbrev μ-loop2 : tie.MeasureT-loop2
 μ-loop2 words matrix area₀ chunks c joined₀ area joined = chunks - joined
 
--- src/rows.rt:26:5
 loop-holds : tie.Need-loop-holds Inv-loop μ-loop Inv-loop2 μ-loop2
 loop-holds c = search needs
 
--- src/rows.rt:27:9
 run-requires : tie.Need-run-requires Inv-loop μ-loop Inv-loop2 μ-loop2
 run-requires c κs = tt
 
--- src/rows.rt:28:9
 add-c : tie.Need-add-c Inv-loop μ-loop Inv-loop2 μ-loop2
 add-c c = search needs
 
--- src/rows.rt:26:5
 loop-less : tie.Need-loop-less Inv-loop μ-loop Inv-loop2 μ-loop2
 loop-less c = search needs
 
--- src/rows.rt:26:5
 loop-again : tie.Need-loop-again Inv-loop μ-loop Inv-loop2 μ-loop2
 loop-again c = search needs
 
--- src/rows.rt:31:5
 loop2-holds : tie.Need-loop2-holds Inv-loop μ-loop Inv-loop2 μ-loop2
 loop2-holds c = search needs
 
--- src/rows.rt:32:9
 join-requires : tie.Need-join-requires Inv-loop μ-loop Inv-loop2 μ-loop2
 join-requires c κs = tt
 
--- src/rows.rt:33:9
 run-requires-2 : tie.Need-run-requires-2 Inv-loop μ-loop Inv-loop2 μ-loop2
 run-requires-2 c κs = tt
 
--- src/rows.rt:34:9
 add-joined : tie.Need-add-joined Inv-loop μ-loop Inv-loop2 μ-loop2
 add-joined c = search needs
 
--- src/rows.rt:31:5
 loop2-less : tie.Need-loop2-less Inv-loop μ-loop Inv-loop2 μ-loop2
 loop2-less c = search needs
 
--- src/rows.rt:31:5
 loop2-again : tie.Need-loop2-again Inv-loop μ-loop Inv-loop2 μ-loop2
 loop2-again c = search needs
 
--- src/rows.rt:24:1
 same-length : tie.Need-same-length Inv-loop μ-loop Inv-loop2 μ-loop2
 same-length c = search needs
 
--- src/rows.rt:24:1
 returns : tie.Need-returns Inv-loop μ-loop Inv-loop2 μ-loop2
 returns c = tt
 

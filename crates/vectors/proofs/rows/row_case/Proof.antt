@@ -14,79 +14,60 @@ use Rattle.vectors.proofs.rows.schedule.Reads as schedule-reads
 use Rattle.vectors.proofs.shown.line_end.Reads as line-end-reads
 use Rattle.vectors.proofs.shown.show.Reads as show-reads
 
--- src/rows.rt:227:29
 slice-aggregate-read-run : tie.Need-slice-aggregate-read-run
 slice-aggregate-read-run c = refl
 
--- src/rows.rt:227:9
 read-run-requires : tie.Need-read-run-requires
 read-run-requires c κs = tt
 
--- src/rows.rt:228:34
 slice-aggregate-read-run-2 : tie.Need-slice-aggregate-read-run-2
 slice-aggregate-read-run-2 c = refl
 
--- src/rows.rt:228:9
 read-run-requires-2 : tie.Need-read-run-requires-2
 read-run-requires-2 c κs = tt
 
--- src/rows.rt:229:16
 next-wide-requires : tie.Need-next-wide-requires
 next-wide-requires c κs = tt
 
--- src/rows.rt:229:16
 cast-room : tie.Need-cast-room
 cast-room c = search needs
 
--- src/rows.rt:231:9
 returns : tie.Need-returns
 returns c = tt
 
--- src/rows.rt:236:9
 array-share-prefix-tokens : tie.Need-array-share-prefix-tokens
 array-share-prefix-tokens c = omega arith
 
--- src/rows.rt:236:9
 slice-aggregate-schedule : tie.Need-slice-aggregate-schedule
 slice-aggregate-schedule c = sym (length-take-le _ _ (array-share-prefix-tokens (c .before)))
 
--- src/rows.rt:237:9
 array-share-prefix-cuts : tie.Need-array-share-prefix-cuts
 array-share-prefix-cuts c = omega arith
 
--- src/rows.rt:237:9
 slice-aggregate-schedule-2 : tie.Need-slice-aggregate-schedule-2
 slice-aggregate-schedule-2 c = sym (length-take-le _ _ (array-share-prefix-cuts (c .before)))
 
--- src/rows.rt:238:9
 array-borrow-prefix-area : tie.Need-array-borrow-prefix-area
 array-borrow-prefix-area c = omega arith
 
--- src/rows.rt:238:9
 slice-aggregate-schedule-3 : tie.Need-slice-aggregate-schedule-3
 slice-aggregate-schedule-3 c = sym (length-take-le _ _ (array-borrow-prefix-area (c .before)))
 
--- src/rows.rt:240:9
 slice-aggregate-schedule-4 : tie.Need-slice-aggregate-schedule-4
 slice-aggregate-schedule-4 c = refl
 
--- src/rows.rt:233:17
 schedule-requires : tie.Need-schedule-requires
 schedule-requires c κs = tt
 
--- src/rows.rt:233:5
 show-requires : tie.Need-show-requires
 show-requires c κs = tt
 
--- src/rows.rt:243:5
 line-end-requires : tie.Need-line-end-requires
 line-end-requires c κs = tt
 
--- src/rows.rt:221:1
 same-length : tie.Need-same-length
 same-length c = search needs
 
--- src/rows.rt:221:1
 returns-2 : tie.Need-returns-2
 returns-2 c = tt
 

@@ -21,99 +21,75 @@ Inv-loop words₀ matrix₀ tokens cuts area₀ kept₀ out₀ aloud sum₀ left
 abbrev μ-loop : tie.MeasureT-loop
 μ-loop words₀ matrix₀ tokens cuts area₀ kept₀ out₀ aloud sum₀ left₀ words matrix area kept out sum left = left
 
--- src/rows.rt:183:5
 loop-holds : tie.Need-loop-holds Inv-loop μ-loop
 loop-holds c = search needs
 
--- src/rows.rt:184:13
 next-word-requires : tie.Need-next-word-requires Inv-loop μ-loop
 next-word-requires c κs = tt
 
--- src/rows.rt:187:13
 same-length : tie.Need-same-length Inv-loop μ-loop
 same-length c = search needs
 
--- src/rows.rt:187:13
 same-length-2 : tie.Need-same-length-2 Inv-loop μ-loop
 same-length-2 c = search needs
 
--- src/rows.rt:187:13
 same-length-3 : tie.Need-same-length-3 Inv-loop μ-loop
 same-length-3 c = search needs
 
--- src/rows.rt:187:13
 returns : tie.Need-returns Inv-loop μ-loop
 returns c = tt
 
--- src/rows.rt:189:9
 sub-left : tie.Need-sub-left Inv-loop μ-loop
 sub-left c = search needs
 
--- src/rows.rt:191:25
 cast-chunk : tie.Need-cast-chunk Inv-loop μ-loop
 cast-chunk c = search needs
 
--- src/rows.rt:192:13
 one-call-requires : tie.Need-one-call-requires Inv-loop μ-loop
 one-call-requires c κs = tt
 
--- src/rows.rt:183:5
 loop-less : tie.Need-loop-less Inv-loop μ-loop
 loop-less c = search needs
 
--- src/rows.rt:183:5
 loop-again : tie.Need-loop-again Inv-loop μ-loop
 loop-again c = search needs
 
--- src/rows.rt:205:13
 keep-requires : tie.Need-keep-requires Inv-loop μ-loop
 keep-requires c κs = tt
 
--- src/rows.rt:183:5
 loop-less-2 : tie.Need-loop-less-2 Inv-loop μ-loop
 loop-less-2 c = search needs
 
--- src/rows.rt:183:5
 loop-again-2 : tie.Need-loop-again-2 Inv-loop μ-loop
 loop-again-2 c = search needs
 
--- src/rows.rt:207:13
 change-requires : tie.Need-change-requires Inv-loop μ-loop
 change-requires c κs = tt
 
--- src/rows.rt:183:5
 loop-less-3 : tie.Need-loop-less-3 Inv-loop μ-loop
 loop-less-3 c = search needs
 
--- src/rows.rt:183:5
 loop-again-3 : tie.Need-loop-again-3 Inv-loop μ-loop
 loop-again-3 c = search needs
 
--- src/rows.rt:209:13
 show-row-requires : tie.Need-show-row-requires Inv-loop μ-loop
 show-row-requires c κs = tt
 
--- src/rows.rt:183:5
 loop-less-4 : tie.Need-loop-less-4 Inv-loop μ-loop
 loop-less-4 c = search needs
 
--- src/rows.rt:183:5
 loop-again-4 : tie.Need-loop-again-4 Inv-loop μ-loop
 loop-again-4 c = search needs
 
--- src/rows.rt:171:1
 same-length-4 : tie.Need-same-length-4 Inv-loop μ-loop
 same-length-4 c = search needs
 
--- src/rows.rt:171:1
 same-length-5 : tie.Need-same-length-5 Inv-loop μ-loop
 same-length-5 c = search needs
 
--- src/rows.rt:171:1
 same-length-6 : tie.Need-same-length-6 Inv-loop μ-loop
 same-length-6 c = search needs
 
--- src/rows.rt:171:1
 returns-2 : tie.Need-returns-2 Inv-loop μ-loop
 returns-2 c = tt
 

@@ -18,47 +18,36 @@ Inv-loop report tokens left₀ left = left ≤ 65536
 abbrev μ-loop : tie.MeasureT-loop
 μ-loop report tokens left₀ left = left
 
--- src/rows.rt:246:9
 next-word-requires : tie.Need-next-word-requires Inv-loop μ-loop
 next-word-requires c κs = tt
 
--- src/rows.rt:247:5
 loop-holds : tie.Need-loop-holds Inv-loop μ-loop
 loop-holds c = search needs
 
--- src/rows.rt:248:49
 next-wide-requires : tie.Need-next-wide-requires Inv-loop μ-loop
 next-wide-requires c κs = tt
 
--- src/rows.rt:248:49
 cast-entry-tokens : tie.Need-cast-entry-tokens Inv-loop μ-loop
 cast-entry-tokens c = search needs
 
--- src/rows.rt:248:13
 entry-tokens-requires : tie.Need-entry-tokens-requires Inv-loop μ-loop
 entry-tokens-requires c κs = tt
 
--- src/rows.rt:249:9
 show-requires : tie.Need-show-requires Inv-loop μ-loop
 show-requires c κs = tt
 
--- src/rows.rt:250:9
 show-words-requires : tie.Need-show-words-requires Inv-loop μ-loop
 show-words-requires c κs = tt
 
--- src/rows.rt:251:9
 sub-left : tie.Need-sub-left Inv-loop μ-loop
 sub-left c = search needs
 
--- src/rows.rt:247:5
 loop-less : tie.Need-loop-less Inv-loop μ-loop
 loop-less c = search needs
 
--- src/rows.rt:247:5
 loop-again : tie.Need-loop-again Inv-loop μ-loop
 loop-again c = search needs
 
--- src/rows.rt:245:1
 returns : tie.Need-returns Inv-loop μ-loop
 returns c = tt
 

@@ -10,35 +10,27 @@ use Rattle.vectors.proofs.rows.show_row.Lts as lts
 use Rattle.vectors.proofs.input.next_word.Reads as next-word-reads
 use Rattle.vectors.proofs.shown.show_words.Reads as show-words-reads
 
--- src/rows.rt:151:9
 show-words-requires : tie.Need-show-words-requires
 show-words-requires c κs = tt
 
--- src/rows.rt:152:9
 returns : tie.Need-returns
 returns c = tt
 
--- src/rows.rt:154:17
 next-word-requires : tie.Need-next-word-requires
 next-word-requires c κs = tt
 
--- src/rows.rt:154:17
 cast-count : tie.Need-cast-count
 cast-count c = search needs
 
--- src/rows.rt:156:27
 slice-aggregate-show-words : tie.Need-slice-aggregate-show-words
 slice-aggregate-show-words c = simp length-take (omega arith)
 
--- src/rows.rt:156:9
 show-words-requires-2 : tie.Need-show-words-requires-2
 show-words-requires-2 c κs = tt
 
--- src/rows.rt:149:1
 returns-2 : tie.Need-returns-2
 returns-2 c = tt
 
--- src/rows.rt:149:1
 returns-3 : tie.Need-returns-3
 returns-3 c = tt
 

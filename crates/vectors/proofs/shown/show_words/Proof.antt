@@ -18,43 +18,33 @@ Inv-loop words i₀ i = i ≤ length words
 abbrev μ-loop : tie.MeasureT-loop
 μ-loop words i₀ i = length words - i
 
--- src/shown.rt:146:5
 loop-holds : tie.Need-loop-holds Inv-loop μ-loop
 loop-holds c = search needs
 
--- src/shown.rt:147:24
 mul-wide-word : tie.Need-mul-wide-word Inv-loop μ-loop
 mul-wide-word c = search needs
 
--- src/shown.rt:147:24
 shared-slice-read-wide-word : tie.Need-shared-slice-read-wide-word Inv-loop μ-loop
 shared-slice-read-wide-word c = search needs
 
--- src/shown.rt:147:14
 wide-word-requires : tie.Need-wide-word-requires Inv-loop μ-loop
 wide-word-requires c κs = tt
 
--- src/shown.rt:147:9
 show-requires : tie.Need-show-requires Inv-loop μ-loop
 show-requires c κs = tt
 
--- src/shown.rt:148:9
 add-i : tie.Need-add-i Inv-loop μ-loop
 add-i c = search needs
 
--- src/shown.rt:146:5
 loop-less : tie.Need-loop-less Inv-loop μ-loop
 loop-less c = search needs
 
--- src/shown.rt:146:5
 loop-again : tie.Need-loop-again Inv-loop μ-loop
 loop-again c = search needs
 
--- src/shown.rt:150:5
 line-end-requires : tie.Need-line-end-requires Inv-loop μ-loop
 line-end-requires c κs = tt
 
--- src/shown.rt:144:1
 returns : tie.Need-returns Inv-loop μ-loop
 returns c = tt
 

@@ -17,35 +17,27 @@ Inv-loop bytes sum₀ i₀ sum i = i ≤ length bytes
 abbrev μ-loop : tie.MeasureT-loop
 μ-loop bytes sum₀ i₀ sum i = length bytes - i
 
--- src/shown.rt:113:5
 loop-holds : tie.Need-loop-holds Inv-loop μ-loop
 loop-holds c = search needs
 
--- src/shown.rt:114:37
 shared-slice-read-wide-byte : tie.Need-shared-slice-read-wide-byte Inv-loop μ-loop
 shared-slice-read-wide-byte c = search needs
 
--- src/shown.rt:114:27
 wide-byte-requires : tie.Need-wide-byte-requires Inv-loop μ-loop
 wide-byte-requires c κs = tt
 
--- src/shown.rt:114:9
 folded-requires : tie.Need-folded-requires Inv-loop μ-loop
 folded-requires c κs = tt
 
--- src/shown.rt:115:9
 add-i : tie.Need-add-i Inv-loop μ-loop
 add-i c = search needs
 
--- src/shown.rt:113:5
 loop-less : tie.Need-loop-less Inv-loop μ-loop
 loop-less c = search needs
 
--- src/shown.rt:113:5
 loop-again : tie.Need-loop-again Inv-loop μ-loop
 loop-again c = search needs
 
--- src/shown.rt:110:1
 returns : tie.Need-returns Inv-loop μ-loop
 returns c = tt
 

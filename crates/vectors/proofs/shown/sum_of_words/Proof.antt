@@ -17,39 +17,30 @@ Inv-loop words sum₀ i₀ sum i = i ≤ length words
 abbrev μ-loop : tie.MeasureT-loop
 μ-loop words sum₀ i₀ sum i = length words - i
 
--- src/shown.rt:123:5
 loop-holds : tie.Need-loop-holds Inv-loop μ-loop
 loop-holds c = search needs
 
--- src/shown.rt:124:37
 mul-wide-word : tie.Need-mul-wide-word Inv-loop μ-loop
 mul-wide-word c = search needs
 
--- src/shown.rt:124:37
 shared-slice-read-wide-word : tie.Need-shared-slice-read-wide-word Inv-loop μ-loop
 shared-slice-read-wide-word c = search needs
 
--- src/shown.rt:124:27
 wide-word-requires : tie.Need-wide-word-requires Inv-loop μ-loop
 wide-word-requires c κs = tt
 
--- src/shown.rt:124:9
 folded-requires : tie.Need-folded-requires Inv-loop μ-loop
 folded-requires c κs = tt
 
--- src/shown.rt:125:9
 add-i : tie.Need-add-i Inv-loop μ-loop
 add-i c = search needs
 
--- src/shown.rt:123:5
 loop-less : tie.Need-loop-less Inv-loop μ-loop
 loop-less c = search needs
 
--- src/shown.rt:123:5
 loop-again : tie.Need-loop-again Inv-loop μ-loop
 loop-again c = search needs
 
--- src/shown.rt:120:1
 returns : tie.Need-returns Inv-loop μ-loop
 returns c = tt
 

@@ -14,43 +14,33 @@ use Rattle.vectors.proofs.shown.show.Reads as show-reads
 use Rattle.vectors.proofs.shown.show_answer.Reads as show-answer-reads
 use Rattle.vectors.proofs.shown.sum_of_bytes.Reads as sum-of-bytes-reads
 
--- src/tables.rt:11:9
 read-run-requires : tie.Need-read-run-requires
 read-run-requires c κs = tt
 
--- src/tables.rt:13:36
 slice-reshare-prefix-load : tie.Need-slice-reshare-prefix-load
 slice-reshare-prefix-load c = search needs
 
--- src/tables.rt:13:36
 slice-aggregate-load : tie.Need-slice-aggregate-load
 slice-aggregate-load c = simp length-take (omega arith)
 
--- src/tables.rt:13:24
 load-requires : tie.Need-load-requires
 load-requires c κs = tt
 
--- src/tables.rt:13:5
 show-answer-requires : tie.Need-show-answer-requires
 show-answer-requires c κs = tt
 
--- src/tables.rt:14:17
 sum-of-bytes-requires : tie.Need-sum-of-bytes-requires
 sum-of-bytes-requires c κs = tt
 
--- src/tables.rt:14:5
 show-requires : tie.Need-show-requires
 show-requires c κs = tt
 
--- src/tables.rt:15:5
 line-end-requires : tie.Need-line-end-requires
 line-end-requires c κs = tt
 
--- src/tables.rt:8:1
 same-length : tie.Need-same-length
 same-length c = search needs
 
--- src/tables.rt:8:1
 returns : tie.Need-returns
 returns c = search needs
 

@@ -17,43 +17,33 @@ Inv-loop bytes size words₀ tokens₀ cuts₀ state₀ at₀ words tokens cuts 
 abbrev μ-loop : tie.MeasureT-loop
 μ-loop bytes size words₀ tokens₀ cuts₀ state₀ at₀ words tokens cuts state at = length bytes - at
 
--- src/texts.rt:61:9
 start-requires : tie.Need-start-requires Inv-loop μ-loop
 start-requires c κs = tt
 
--- src/texts.rt:63:5
 loop-holds : tie.Need-loop-holds Inv-loop μ-loop
 loop-holds c = search needs
 
--- src/texts.rt:64:13
 piece-end-requires : tie.Need-piece-end-requires Inv-loop μ-loop
 piece-end-requires c κs = search needs
 
--- src/texts.rt:65:44
 sub-feed-piece : tie.Need-sub-feed-piece Inv-loop μ-loop
 sub-feed-piece c = search needs
 
--- src/texts.rt:65:44
 part-feed-piece-start : tie.Need-part-feed-piece-start Inv-loop μ-loop
 part-feed-piece-start c = search needs
 
--- src/texts.rt:65:44
 part-feed-piece-end : tie.Need-part-feed-piece-end Inv-loop μ-loop
 part-feed-piece-end c = search needs
 
--- src/texts.rt:65:9
 feed-piece-requires : tie.Need-feed-piece-requires Inv-loop μ-loop
 feed-piece-requires c κs = tt
 
--- src/texts.rt:63:5
 loop-less : tie.Need-loop-less Inv-loop μ-loop
 loop-less c = search needs
 
--- src/texts.rt:63:5
 loop-again : tie.Need-loop-again Inv-loop μ-loop
 loop-again c = search needs
 
--- src/texts.rt:54:1
 returns : tie.Need-returns Inv-loop μ-loop
 returns c = tt
 

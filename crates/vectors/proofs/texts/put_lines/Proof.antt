@@ -20,59 +20,45 @@ Inv-loop bytes₀ at₀ left₀ bytes at left = length bytes ≡ length bytes₀
 abbrev μ-loop : tie.MeasureT-loop
 μ-loop bytes₀ at₀ left₀ bytes at left = left
 
--- src/texts.rt:126:18
 next-word-requires : tie.Need-next-word-requires Inv-loop μ-loop
 next-word-requires c κs = tt
 
--- src/texts.rt:126:18
 cast-at : tie.Need-cast-at Inv-loop μ-loop
 cast-at c = search needs
 
--- src/texts.rt:127:9
 next-word-requires-2 : tie.Need-next-word-requires-2 Inv-loop μ-loop
 next-word-requires-2 c κs = tt
 
--- src/texts.rt:128:5
 loop-holds : tie.Need-loop-holds Inv-loop μ-loop
 loop-holds c = search needs
 
--- src/texts.rt:129:18
 next-word-requires-3 : tie.Need-next-word-requires-3 Inv-loop μ-loop
 next-word-requires-3 c κs = tt
 
--- src/texts.rt:129:9
 put-requires : tie.Need-put-requires Inv-loop μ-loop
 put-requires c κs = tt
 
--- src/texts.rt:130:9
 show-requires : tie.Need-show-requires Inv-loop μ-loop
 show-requires c κs = tt
 
--- src/texts.rt:131:9
 sub-left : tie.Need-sub-left Inv-loop μ-loop
 sub-left c = search needs
 
--- src/texts.rt:128:5
 loop-less : tie.Need-loop-less Inv-loop μ-loop
 loop-less c = search needs
 
--- src/texts.rt:128:5
 loop-again : tie.Need-loop-again Inv-loop μ-loop
 loop-again c = search needs
 
--- src/texts.rt:133:5
 write-all-requires : tie.Need-write-all-requires Inv-loop μ-loop
 write-all-requires c κs = tt
 
--- src/texts.rt:134:5
 line-end-requires : tie.Need-line-end-requires Inv-loop μ-loop
 line-end-requires c κs = tt
 
--- src/texts.rt:125:1
 same-length : tie.Need-same-length Inv-loop μ-loop
 same-length c = search needs
 
--- src/texts.rt:125:1
 returns : tie.Need-returns Inv-loop μ-loop
 returns c = tt
 

@@ -15,39 +15,30 @@ Inv-loop bytes left₀ left = left ≤ 65536
 abbrev μ-loop : tie.MeasureT-loop
 μ-loop bytes left₀ left = left
 
--- src/texts.rt:82:9
 next-word-requires : tie.Need-next-word-requires Inv-loop μ-loop
 next-word-requires c κs = tt
 
--- src/texts.rt:83:5
 loop-holds : tie.Need-loop-holds Inv-loop μ-loop
 loop-holds c = search needs
 
--- src/texts.rt:84:28
 next-word-requires-2 : tie.Need-next-word-requires-2 Inv-loop μ-loop
 next-word-requires-2 c κs = tt
 
--- src/texts.rt:84:28
 cast-read-pieces : tie.Need-cast-read-pieces Inv-loop μ-loop
 cast-read-pieces c = search needs
 
--- src/texts.rt:84:9
 read-pieces-requires : tie.Need-read-pieces-requires Inv-loop μ-loop
 read-pieces-requires c κs = tt
 
--- src/texts.rt:85:9
 sub-left : tie.Need-sub-left Inv-loop μ-loop
 sub-left c = search needs
 
--- src/texts.rt:83:5
 loop-less : tie.Need-loop-less Inv-loop μ-loop
 loop-less c = search needs
 
--- src/texts.rt:83:5
 loop-again : tie.Need-loop-again Inv-loop μ-loop
 loop-again c = search needs
 
--- src/texts.rt:81:1
 returns : tie.Need-returns Inv-loop μ-loop
 returns c = tt
 

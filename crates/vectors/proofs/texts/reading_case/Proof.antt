@@ -12,39 +12,30 @@ use Rattle.vectors.proofs.input.copy_bytes.Reads as copy-bytes-reads
 use Rattle.vectors.proofs.input.read_run.Reads as read-run-reads
 use Rattle.vectors.proofs.texts.read_each.Reads as read-each-reads
 
--- src/texts.rt:96:29
 slice-aggregate-read-run : tie.Need-slice-aggregate-read-run
 slice-aggregate-read-run c = search needs
 
--- src/texts.rt:96:9
 read-run-requires : tie.Need-read-run-requires
 read-run-requires c κs = tt
 
--- src/texts.rt:97:23
 slice-aggregate-copy-bytes : tie.Need-slice-aggregate-copy-bytes
 slice-aggregate-copy-bytes c = search needs
 
--- src/texts.rt:97:29
 slice-aggregate-copy-bytes-2 : tie.Need-slice-aggregate-copy-bytes-2
 slice-aggregate-copy-bytes-2 c = search needs
 
--- src/texts.rt:97:5
 copy-bytes-requires : tie.Need-copy-bytes-requires
 copy-bytes-requires c κs = tt
 
--- src/texts.rt:98:15
 array-share-prefix-bytes : tie.Need-array-share-prefix-bytes
 array-share-prefix-bytes c = omega arith
 
--- src/texts.rt:98:15
 slice-aggregate-read-each : tie.Need-slice-aggregate-read-each
 slice-aggregate-read-each c = sym (length-take-le _ _ (array-share-prefix-bytes (c .before)))
 
--- src/texts.rt:98:5
 read-each-requires : tie.Need-read-each-requires
 read-each-requires c κs = tt
 
--- src/texts.rt:93:1
 returns : tie.Need-returns
 returns c = tt
 

@@ -10,23 +10,18 @@ use Rattle.vectors.proofs.texts.show_first.Lts as lts
 use Rattle.vectors.proofs.shown.show.Reads as show-reads
 use Rattle.vectors.proofs.shown.sum_of_words.Reads as sum-of-words-reads
 
--- src/texts.rt:14:41
 slice-aggregate-sum-of-words : tie.Need-slice-aggregate-sum-of-words
 slice-aggregate-sum-of-words c = simp length-take (omega arith)
 
--- src/texts.rt:14:21
 sum-of-words-requires : tie.Need-sum-of-words-requires
 sum-of-words-requires c κs = tt
 
--- src/texts.rt:14:9
 show-requires : tie.Need-show-requires
 show-requires c κs = tt
 
--- src/texts.rt:12:1
 returns : tie.Need-returns
 returns c = tt
 
--- src/texts.rt:12:1
 returns-2 : tie.Need-returns-2
 returns-2 c = tt
 

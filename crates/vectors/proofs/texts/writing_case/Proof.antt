@@ -10,31 +10,24 @@ use Rattle.vectors.proofs.texts.writing_case.Lts as lts
 use Rattle.vectors.proofs.input.next_word.Reads as next-word-reads
 use Rattle.vectors.proofs.texts.put_lines.Reads as put-lines-reads
 
--- src/texts.rt:140:16
 next-word-requires : tie.Need-next-word-requires
 next-word-requires c κs = tt
 
--- src/texts.rt:140:16
 cast-room : tie.Need-cast-room
 cast-room c = search needs
 
--- src/texts.rt:142:19
 array-borrow-prefix-bytes : tie.Need-array-borrow-prefix-bytes
 array-borrow-prefix-bytes c = search needs
 
--- src/texts.rt:142:19
 slice-aggregate-put-lines : tie.Need-slice-aggregate-put-lines
 slice-aggregate-put-lines c = simp length-take (omega arith)
 
--- src/texts.rt:142:9
 put-lines-requires : tie.Need-put-lines-requires
 put-lines-requires c κs = tt
 
--- src/texts.rt:138:1
 returns : tie.Need-returns
 returns c = tt
 
--- src/texts.rt:138:1
 returns-2 : tie.Need-returns-2
 returns-2 c = tt
 

@@ -1,5 +1,5 @@
 -- The stack that is # and an axiom, told from its words: two blocks, the lower one #, the upper one an axiom.
--- Rests on moving's ReadWords and StackWords.
+-- Rests on ReadWords and StackWords.
 --
 -- Main statements: not-empty, not-one (each why a stack is none), end-and-axiom.
 use Prim.Native.Nat.{ℕ, _+_, _<_, _≤_}

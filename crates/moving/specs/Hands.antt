@@ -1,5 +1,5 @@
 -- What is at hand after each store of a move: the hand with that word changed is what the area holds then.
--- Rests on Ready, and on moving's AtHand and MoveWords.
+-- Rests on Ready, AtHand and MoveWords.
 --
 -- Main statements: hand-rests; hand-counted, still-few, hand-ticks; over-roomy; hand-pushed, hand-stuck, hand-accepted, hand-reduced.
 use mathlib.Core.Path.{_≡_, refl, sym, ap, subst, _∙_}
@@ -11,13 +11,13 @@ use lib.Dec.{eqb}
 use lib.ListN.{length, getD, set, length-set}
 use lib.Seq.{getD-set-other, getD-set-same}
 use Rattle.layout.specs.Layout.{tableAt, rowWord, slotWord, movesIn, madeAtWord}
 use Rattle.moving.specs.declared.Hand.{Hand}
 use Rattle.moving.specs.AtHand.{AtHand}
 use Rattle.moving.specs.MoveWords.{headOf, slotAt, tickWords, putWords, endedWords, clearedWords, overWords, notedWords, replacedWords, madeWords}
 use Rattle.moving.specs.MoveWords.{Ticks, Pushable, Stickable, Acceptable, Roomy, Reducible}
 use Rattle.moving.specs.Moved.{restsBy, restsIn}
-use Rattle.reader.proofs.Ready.{cleared-length, cleared-before, over-before, over-length, replaced-before, replaced-roomy}
-use Rattle.reader.proofs.Zeroing.{ended-zeroed}
+use Rattle.moving.specs.Ready.{cleared-length, cleared-before, over-before, over-length, replaced-before, replaced-roomy}
+use Rattle.moving.specs.Zeroing.{ended-zeroed}
 
 pub hand-rests : {area : List ℕ} {c : ℕ} {h : Hand} → AtHand area c h → restsBy (eqb (h .status) 1) (h .end) (h .head) ≡ restsIn area c
 hand-rests a = rw (a .status, a .end, a .head)

@@ -1,6 +1,6 @@
 -- What stays while other words are stored: the count of moves while two chunks are joined, so that the join can be counted; the words below a
 -- handle and the length while it is replaced, so that the reduction can be noted.
--- Rests on moving's MoveWords.
+-- Rests on MoveWords.
 --
 -- Main statements: one-ready, cleared-before, over-before, over-length, replaced-before, replaced-roomy.
 use Prim.Native.Nat.{ℕ, zero, suc, _+_, _*_, _-_, _<_, _≤_}

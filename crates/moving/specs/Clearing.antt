@@ -1,5 +1,5 @@
 -- Blocks are cleared from the top down: what stands where a clearing has come to.
--- Rests on moving's StackWords.
+-- Rests on StackWords.
 --
 -- Main definition: Clearing. Main statements: clearing (it begins), clearing-tagged and clearing-more (one block), clearing-done (it ends).
 use Prim.Native.Nat.{ℕ, _+_, _*_, _-_, _<_, _≤_}

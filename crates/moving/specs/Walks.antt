@@ -1,5 +1,5 @@
 -- A walk down a stack, block by block, to what it looks for: the topmost terminal, or the topmost mark.
--- Rests on moving's ReadWords and StackWords.
+-- Rests on ReadWords and StackWords.
 --
 -- Main definition: Down. Main statements: down-ends and down-under (what a turn asks), down-none (nothing is left); top-found, top-more;
 -- mark-found, mark-more; nonterminal-top, below-start, below-here, below-ends.
@@ -9,13 +9,13 @@ use mathlib.Core.Bool.{Bool, true, false, true≢false, false≢true}
 use mathlib.Core.List.{List, [], _∷_}
 use native.Mathlib.Omega.{arith}
 use lib.Dec.{leb}
-use borrow.Author.Tests.{le-leb, lt-leb}
+use Rattle.laws.specs.Tests.{le-leb, lt-leb}
 use Rattle.language.specs.Trees.{Span}
 use Rattle.machine.specs.Entries.{Entry, terminalOn, nonterminalOn, topTerminal, topIsNonterminal}
 use Rattle.layout.specs.Layout.{stackSize, slotWord}
 use Rattle.moving.specs.declared.Top.the-variants.{Terminal}
 use Rattle.moving.specs.ReadWords.{Holds, Stacked, startSlot, EndsBlock, topOf, belowMark, handleBelow, NonterminalOnTop, BelowMark}
 use Rattle.moving.specs.StackWords.{stacked, slot-start, slot-ends, slot-symbol, slot-mark, slot-under}
 
 -- slots that hold something end in a block
 pub held-ends : {area : List ℕ} {s e : ℕ} (stack : List (Entry Span)) → Holds area s e stack → s < e → EndsBlock area e

@@ -1,5 +1,5 @@
 -- A rule's right side compared with a handle, word by word, from word i of the grammar and slot s of the area on.
--- Rests on moving's MatchWords and on words' Laid.
+-- Rests on MatchWords and on words' Laid.
 --
 -- Main statements: body-next, body-last (where a right side ends); count-more, count-none (how many symbols there are); same-length (a right
 -- side of another length), same-past, same-differ (the next word and the next block), same-both (both end).
@@ -12,11 +12,11 @@ use native.Mathlib.Numerals.{add-one}
 use lib.Dec.{eqb}
 use lib.ListN.{length, getD, take, drop-of-length-le, length-take, length-drop}
 use lib.Seq.{slice, slice-cons}
-use borrow.Author.Tests.{eq-eqb, ne-eqb}
+use Rattle.laws.specs.Tests.{eq-eqb, ne-eqb}
 use Rattle.language.specs.Words.{countR, entry, bodyEnd}
 use Rattle.words.specs.Laid.{ends-next, ends-last}
 use Rattle.layout.specs.Layout.{slotWord}
 use Rattle.moving.specs.MatchWords.{handleWords, sameWords, Whole, handle-none, handle-cons}
 
 -- where a rule's body ends
 pub body-next : (words : List ℕ) (r : ℕ) → r + 1 < countR words → bodyEnd words r ≡ entry words (r + 1)

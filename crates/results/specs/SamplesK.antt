@@ -3,7 +3,7 @@
 -- Document 01, "Sample rows": "K: left sets 10 and 14, right sets 34 and 38 (I, L); sizes 2, 3, 2, 3"; "K with a sixth rule
 -- L -> I , L: 6, value 130"; and "What the library covers": "Table 3.1 of document 000 shows "(" taking precedence over # and #
 -- yielding to ")"; its own definitions give neither."
--- Rests on SetMasks, Conflicts and Matrix, and on CheckSamples for the words of K.
+-- Rests on language's SetMasks, Conflicts and Matrix, and on its CheckSamples for the words of K.
 --
 -- Main definitions: grammarK, grammarK6, expressions.
 -- Main statements: words-K, sets-K, sizes-K, relations-K, matrix-K, conflict-K, conflict-K6; sets-expressions, table-3-1,

@@ -1,5 +1,5 @@
 -- Words put to 0 one after the other: where that has come to, and where it stands for the stores of a move.
--- Rests on moving's MoveWords.
+-- Rests on MoveWords.
 --
 -- Main statements: zeroed-none (it begins), zeroed-next (one word more); ended-zeroed, one-zeroed (the words of a last move and of a join).
 use mathlib.Core.Path.{_≡_, refl, sym, ap, _∙_}
