@@ -4,14 +4,8 @@
 # The clearing of a run of words is counted as the C library does it: that is part of parse alone.
 set -eu
 cd "$(dirname "$0")/.."
-. examples/library.sh
-. examples/machine.sh
-command -v bison >/dev/null || { echo "no bison: install Debian's package bison" >&2; exit 2; }
+. bench/build.sh
 
-build_library
-mkdir -p target/bench
-bison bench/k.y -o target/bench/k.c
-"$CC" -std=c99 -O3 $STATIC -Iinclude -Ibench bench/bench.c bench/handwritten.c target/bench/k.c target/staticlib/libgrugalash.a -o target/bench/bench
 [ -z "$EMULATOR" ] || cc -std=c99 -O2 -shared -fPIC bench/count.c -o target/bench/count.so
 
 # the instructions of a whole run of the program
