@@ -67,7 +67,7 @@ const FALLEN: Walk = Walk {
 };
 
 // The word at place i.
-pub fn word(words: &[u16], i: usize) -> u16
+pub(crate) fn word(words: &[u16], i: usize) -> u16
     requires { ⌜ i < length (now words) ⌝ }
     ensures { λ r. ⌜ r ≡ getD (now (words .entry)) i 0 ⌝ }
 {
@@ -75,7 +75,7 @@ pub fn word(words: &[u16], i: usize) -> u16
 }
 
 // A word as an index or a summand.
-pub fn wide(x: u16) -> usize
+pub(crate) fn wide(x: u16) -> usize
     ensures { λ r. ⌜ (r ≡ x) × (r < 65536) ⌝ }
 {
     x as usize
@@ -92,7 +92,7 @@ fn wide_word(words: &[u16], i: usize) -> usize
 // ---- (c) the sizes
 
 // n in 1..16,384, C in 1..64, the area at least need(n, C) words.
-pub fn sized(area: &[u16]) -> bool
+pub(crate) fn sized(area: &[u16]) -> bool
     ensures { λ r. ⌜ r ≡ ruleC (now (area .entry)) ⌝ }
 {
     let len = area.len();
@@ -308,7 +308,7 @@ fn line(area: &[u16], t: u16, n: u16, w: Walk, x: u16, f: u16, h: u16, e: u16, y
 }
 
 // (d) to (h) of every chunk.
-pub fn walk_table(area: &[u16], t: u16, n: u16) -> Walk
+pub(crate) fn walk_table(area: &[u16], t: u16, n: u16) -> Walk
     requires { ⌜ (n ≤ 64) × Sized (now area) ⌝ }
     ensures { λ r. ⌜ r ≡ walkOf t n (now (area .entry)) ⌝ }
 {
@@ -423,7 +423,7 @@ fn rule_k(area: &[u16], w: Walk) -> bool
 
 // (d) to (k), from a walk of the table: among them (d) chunk 0 is live, with at least one stack slot, and (i) the reductions made and
 // the terminals other than # are at most n.
-pub fn walk_fits(area: &[u16], w: Walk) -> bool
+pub(crate) fn walk_fits(area: &[u16], w: Walk) -> bool
     requires { ⌜ Sized (now area) ⌝ }
     ensures { λ r. ⌜ r ≡ walkFits (now (area .entry)) w ⌝ }
 {

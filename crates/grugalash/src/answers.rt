@@ -6,7 +6,7 @@ use refusals::SetAnswer;
 ghost use mathlib.Core.Path.{_≡_};
 ghost use Rattle.refusals.specs.Refusals.{answerNumber, answerValue, setNumber, setValue, setSize, runNumber, runValue, reportNumber, reportValue, reportMoves};
 
-pub fn number(answer: Answer) -> u32
+pub(crate) fn number(answer: Answer) -> u32
     ensures { λ r. ⌜ r ≡ answerNumber answer ⌝ }
 {
     match answer {
@@ -15,7 +15,7 @@ pub fn number(answer: Answer) -> u32
     }
 }
 
-pub fn value(answer: Answer) -> u32
+pub(crate) fn value(answer: Answer) -> u32
     ensures { λ r. ⌜ r ≡ answerValue answer ⌝ }
 {
     match answer {
@@ -24,7 +24,7 @@ pub fn value(answer: Answer) -> u32
     }
 }
 
-pub fn set_number(answer: SetAnswer) -> u32
+pub(crate) fn set_number(answer: SetAnswer) -> u32
     ensures { λ r. ⌜ r ≡ setNumber answer ⌝ }
 {
     match answer {
@@ -34,7 +34,7 @@ pub fn set_number(answer: SetAnswer) -> u32
 }
 
 // The mask of a set, or the value of a refusal.
-pub fn set_value(answer: SetAnswer) -> u64
+pub(crate) fn set_value(answer: SetAnswer) -> u64
     ensures { λ r. ⌜ r ≡ setValue answer ⌝ }
 {
     match answer {
@@ -43,7 +43,7 @@ pub fn set_value(answer: SetAnswer) -> u64
     }
 }
 
-pub fn set_size(answer: SetAnswer) -> u32
+pub(crate) fn set_size(answer: SetAnswer) -> u32
     ensures { λ r. ⌜ r ≡ setSize answer ⌝ }
 {
     match answer {
@@ -52,7 +52,7 @@ pub fn set_size(answer: SetAnswer) -> u32
     }
 }
 
-pub fn run_number(answer: RunAnswer) -> u32
+pub(crate) fn run_number(answer: RunAnswer) -> u32
     ensures { λ r. ⌜ r ≡ runNumber answer ⌝ }
 {
     match answer {
@@ -62,7 +62,7 @@ pub fn run_number(answer: RunAnswer) -> u32
 }
 
 // The moves made, or the value of a refusal.
-pub fn run_value(answer: RunAnswer) -> u32
+pub(crate) fn run_value(answer: RunAnswer) -> u32
     ensures { λ r. ⌜ r ≡ runValue answer ⌝ }
 {
     match answer {
@@ -71,7 +71,7 @@ pub fn run_value(answer: RunAnswer) -> u32
     }
 }
 
-pub fn report_number(answer: ReportAnswer) -> u32
+pub(crate) fn report_number(answer: ReportAnswer) -> u32
     ensures { λ r. ⌜ r ≡ reportNumber answer ⌝ }
 {
     match answer {
@@ -81,7 +81,7 @@ pub fn report_number(answer: ReportAnswer) -> u32
 }
 
 // The number of entries, or the value of a refusal.
-pub fn report_value(answer: ReportAnswer) -> u32
+pub(crate) fn report_value(answer: ReportAnswer) -> u32
     ensures { λ r. ⌜ r ≡ reportValue answer ⌝ }
 {
     match answer {
@@ -90,7 +90,7 @@ pub fn report_value(answer: ReportAnswer) -> u32
     }
 }
 
-pub fn report_moves(answer: ReportAnswer) -> u32
+pub(crate) fn report_moves(answer: ReportAnswer) -> u32
     ensures { λ r. ⌜ r ≡ reportMoves answer ⌝ }
 {
     match answer {

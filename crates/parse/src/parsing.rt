@@ -12,7 +12,7 @@ ghost use Rattle.outcomes.specs.OutcomeWords.{wordsOutcome};
 ghost use Rattle.parse.specs.ParseLaws.{Finished, Read};
 
 // The grammar loaded, its matrix in bytes of its own, and the row read through by it.
-pub fn read(words: &[u16], tokens: &[u16], area: &mut [u16]) -> Answer
+pub(crate) fn read(words: &[u16], tokens: &[u16], area: &mut [u16]) -> Answer
     ensures { λ r. ⌜ Read (now (words .entry)) (now (tokens .entry)) (now (area .entry)) r (now (area .exit)) ⌝ }
 {
     let mut matrix = [0u8; 4096];
@@ -74,7 +74,7 @@ fn clear(area: &mut [u16], count: usize)
 }
 
 // The answer of a row of n tokens at rest, its report where there is one, and its words cleared, whatever its answer.
-pub fn finish(area: &mut [u16], n: usize, out: &mut [u16]) -> ReportAnswer
+pub(crate) fn finish(area: &mut [u16], n: usize, out: &mut [u16]) -> ReportAnswer
     requires { ⌜ Finished (now area) × (7 * n + 18 ≤ length (now area)) ⌝ }
     ensures { λ r. ⌜ r ≡ outcomeAnswer (wordsOutcome (now (area .entry))) (length (now (out .entry))) ⌝ }
     ensures { λ _. ⌜ now (area .exit) ≡ zeros (7 * n + 18) ++ drop (7 * n + 18) (now (area .entry)) ⌝ }

@@ -17,7 +17,7 @@ ghost use Rattle.moving.specs.Moved.{Moved, uncounted, Possible, CallsFor, Faci
 ghost use Rattle.moving.specs.AtHand.{AtHand};
 
 // Whether number c is live.
-pub fn is_live(area: &[u16], c: usize) -> bool
+pub(crate) fn is_live(area: &[u16], c: usize) -> bool
     requires { ⌜ (2 ≤ length (now area)) × (slotsAt (now area) ≤ length (now area)) ⌝ }
     ensures { λ r. ⌜ r ≡ liveIn (now (area .entry)) c ⌝ }
 {
@@ -38,7 +38,7 @@ fn resting(hand: Hand) -> bool
 }
 
 // Whether chunk c, a live one, is at rest.
-pub fn at_rest(area: &[u16], c: usize) -> bool
+pub(crate) fn at_rest(area: &[u16], c: usize) -> bool
     requires { ⌜ (c < getD (now area) 1 0) × (slotsAt (now area) ≤ length (now area)) ⌝ }
     ensures { λ r. ⌜ r ≡ restsIn (now (area .entry)) c ⌝ }
 {
@@ -132,7 +132,13 @@ fn moved(area: &mut [u16], c: usize, mut hand: Hand, next: Move) -> Hand
 }
 
 // One move of chunk c, a live one that is not at rest; what is at hand after it.
-pub fn make_move(words: &[u16], matrix: &[u8], area: &mut [u16], c: usize, hand: Hand) -> Hand
+pub(crate) fn make_move(
+    words: &[u16],
+    matrix: &[u8],
+    area: &mut [u16],
+    c: usize,
+    hand: Hand,
+) -> Hand
     requires { ⌜ Movable (now words) (now matrix) (now area) c × AtHand (now area) c hand ⌝ }
     ensures { λ _. ⌜ Moved (now (words .entry)) (now (matrix .entry)) (now (area .entry)) c (now (area .exit)) ⌝ }
     ensures { λ r. ⌜ AtHand (now (area .exit)) c r ⌝ }
@@ -144,7 +150,13 @@ pub fn make_move(words: &[u16], matrix: &[u8], area: &mut [u16], c: usize, hand:
 }
 
 // Moves of chunk c, a live one, until so many are made or it rests; how many were made.
-pub fn make_moves(words: &[u16], matrix: &[u8], area: &mut [u16], c: usize, budget: u32) -> u32
+pub(crate) fn make_moves(
+    words: &[u16],
+    matrix: &[u8],
+    area: &mut [u16],
+    c: usize,
+    budget: u32,
+) -> u32
     requires { ⌜ Runnable (now words) (now matrix) (now area) c ⌝ }
     ensures { λ made. ⌜ RanWords (now (words .entry)) (now (matrix .entry)) (now (area .entry)) c budget made (now (area .exit)) ⌝ }
 {

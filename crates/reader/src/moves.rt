@@ -27,7 +27,7 @@ fn slot_at(area: &[u16], s: usize) -> usize
 }
 
 // Word k of slot s.
-pub fn slot_word(area: &[u16], s: usize, k: usize) -> u16
+pub(crate) fn slot_word(area: &[u16], s: usize, k: usize) -> u16
     requires { ⌜ slotAt (now area) s + k < length (now area) ⌝ }
     ensures { λ r. ⌜ r ≡ slotWord (now (area .entry)) s k ⌝ }
 {
@@ -35,7 +35,7 @@ pub fn slot_word(area: &[u16], s: usize, k: usize) -> u16
 }
 
 // Word k of chunk c's row of the table.
-pub fn row_word(area: &[u16], c: usize, k: usize) -> u16
+pub(crate) fn row_word(area: &[u16], c: usize, k: usize) -> u16
     requires { ⌜ tableAt c k < length (now area) ⌝ }
     ensures { λ r. ⌜ r ≡ rowWord (now (area .entry)) c k ⌝ }
 {
@@ -51,7 +51,7 @@ fn moves_of(area: &[u16]) -> u32
 }
 
 // What the area holds of chunk c.
-pub fn hand_of(area: &[u16], c: usize) -> Hand
+pub(crate) fn hand_of(area: &[u16], c: usize) -> Hand
     requires { ⌜ (c < getD (now area) 1 0) × (slotsAt (now area) ≤ length (now area)) ⌝ }
     ensures { λ r. ⌜ AtHand (now (area .entry)) c r ⌝ }
 {
@@ -67,7 +67,7 @@ pub fn hand_of(area: &[u16], c: usize) -> Hand
 }
 
 // One move more than the `moves` until now; how many that makes.
-pub fn tick(area: &mut [u16], moves: u32) -> u32
+pub(crate) fn tick(area: &mut [u16], moves: u32) -> u32
     requires { ⌜ Ticks (now area) moves ⌝ }
     ensures { λ r. ⌜ (r ≡ moves + 1) × (now (area .exit) ≡ tickWords (now (area .entry))) ⌝ }
 {
@@ -78,7 +78,7 @@ pub fn tick(area: &mut [u16], moves: u32) -> u32
 }
 
 // Puts chunk c's next unread symbol on its stack, with this mark (0 or 1); the move is not yet counted.
-pub fn push(area: &mut [u16], c: usize, mut hand: Hand, mark: u16) -> Hand
+pub(crate) fn push(area: &mut [u16], c: usize, mut hand: Hand, mark: u16) -> Hand
     requires { ⌜ Pushable (now area) c mark × AtHand (now area) c hand ⌝ }
     ensures { λ r. ⌜ (now (area .exit) ≡ putWords (now (area .entry)) c mark) × AtHand (now (area .exit)) c r × (r .moves ≡ hand .moves) ⌝ }
 {
@@ -94,7 +94,7 @@ pub fn push(area: &mut [u16], c: usize, mut hand: Hand, mark: u16) -> Hand
 }
 
 // Puts 0 at `count` words, the first at `at`.
-pub fn zero(area: &mut [u16], at: usize, count: usize)
+pub(crate) fn zero(area: &mut [u16], at: usize, count: usize)
     requires { ⌜ at + count ≤ length (now area) ⌝ }
     ensures { λ _. ⌜ now (area .exit) ≡ clearedWords (now (area .entry)) at count ⌝ }
 {
@@ -106,7 +106,7 @@ pub fn zero(area: &mut [u16], at: usize, count: usize)
 }
 
 // Chunk c reads the # of the end, its stack unchanged; the move is not yet counted.
-pub fn accept(area: &mut [u16], c: usize, mut hand: Hand) -> Hand
+pub(crate) fn accept(area: &mut [u16], c: usize, mut hand: Hand) -> Hand
     requires { ⌜ Acceptable (now area) c × AtHand (now area) c hand ⌝ }
     ensures { λ r. ⌜ (now (area .exit) ≡ endedWords (now (area .entry)) c) × AtHand (now (area .exit)) c r × (r .moves ≡ hand .moves) ⌝ }
 {
@@ -133,7 +133,7 @@ fn unmark(area: &mut [u16], first: usize, count: usize)
 }
 
 // Joins chunk c to chunk d, the next live one: d's stack is unmarked, its end is c's, and its row of the table is 0.
-pub fn join_chunks(area: &mut [u16], c: usize, d: usize)
+pub(crate) fn join_chunks(area: &mut [u16], c: usize, d: usize)
     requires { ⌜ Joinable (now area) c d ⌝ }
     ensures { λ _. ⌜ now (area .exit) ≡ joinWords (now (area .entry)) c d ⌝ }
 {
@@ -193,7 +193,14 @@ fn lay(area: &mut [u16], from: u16, head: u16, symbol: u16)
 
 // Replaces the handle of chunk c, its stack from slot `from` up, by the left side `symbol` of this rule; the move is not
 // yet counted.
-pub fn reduce(area: &mut [u16], c: usize, mut hand: Hand, from: u16, symbol: u16, rule: u16) -> Hand
+pub(crate) fn reduce(
+    area: &mut [u16],
+    c: usize,
+    mut hand: Hand,
+    from: u16,
+    symbol: u16,
+    rule: u16,
+) -> Hand
     requires { ⌜ Reducible (now area) c from × AtHand (now area) c hand ⌝ }
     ensures { λ r. ⌜ (now (area .exit) ≡ madeWords (now (area .entry)) c from symbol rule) × AtHand (now (area .exit)) c r × (r .moves ≡ hand .moves) ⌝ }
 {
@@ -216,7 +223,7 @@ fn block_start(area: &[u16], end: usize) -> usize
 }
 
 // Whether the topmost symbol of the stack on the slots from `from` up to `end` is a nonterminal.
-pub fn nonterminal_on_top(area: &[u16], from: usize, end: usize) -> bool
+pub(crate) fn nonterminal_on_top(area: &[u16], from: usize, end: usize) -> bool
     requires { ⌜ Stacked (now area) from end ⌝ }
     ensures { λ r. ⌜ NonterminalOnTop (now (area .entry)) from end r ⌝ }
 {
@@ -227,7 +234,7 @@ pub fn nonterminal_on_top(area: &[u16], from: usize, end: usize) -> bool
 }
 
 // The topmost terminal of the stack on the slots from `from` up to `head`.
-pub fn top_terminal(area: &[u16], from: usize, head: usize) -> Top
+pub(crate) fn top_terminal(area: &[u16], from: usize, head: usize) -> Top
     requires { ⌜ Stacked (now area) from head ⌝ }
     ensures { λ r. ⌜ TopIs (now (area .entry)) from head r ⌝ }
 {
@@ -244,7 +251,7 @@ pub fn top_terminal(area: &[u16], from: usize, head: usize) -> Top
 
 // The slot where the handle starts of the stack on the slots from `from` up to `head`: that of the topmost mark, or of the nonterminal just
 // below it; `from` where there is no mark.
-pub fn find_mark(area: &[u16], from: usize, head: usize) -> usize
+pub(crate) fn find_mark(area: &[u16], from: usize, head: usize) -> usize
     requires { ⌜ Stacked (now area) from head ⌝ }
     ensures { λ r. ⌜ HandleStarts (now (area .entry)) from head r ⌝ }
 {
@@ -262,7 +269,7 @@ pub fn find_mark(area: &[u16], from: usize, head: usize) -> usize
 }
 
 // Whether the stack on the slots from `from` up to `head` is # and one of the first `axioms` nonterminals.
-pub fn end_and_axiom(area: &[u16], from: usize, head: usize, axioms: u16) -> bool
+pub(crate) fn end_and_axiom(area: &[u16], from: usize, head: usize, axioms: u16) -> bool
     requires { ⌜ Stacked (now area) from head ⌝ }
     ensures { λ r. ⌜ EndAndAxiom (now (area .entry)) from head axioms r ⌝ }
 {
@@ -282,7 +289,7 @@ pub fn end_and_axiom(area: &[u16], from: usize, head: usize, axioms: u16) -> boo
 }
 
 // The next live chunk after chunk c.
-pub fn next_live(area: &[u16], c: usize) -> Next
+pub(crate) fn next_live(area: &[u16], c: usize) -> Next
     requires { ⌜ (c < getD (now area) 1 0) × (slotsAt (now area) ≤ length (now area)) ⌝ }
     ensures { λ r. ⌜ r ≡ nextOf (liveAfter (now (area .entry)) c) ⌝ }
 {
@@ -298,7 +305,7 @@ pub fn next_live(area: &[u16], c: usize) -> Next
 }
 
 // The word place at which rule r's body starts.
-pub fn body_start(words: &[u16], r: usize) -> usize
+pub(crate) fn body_start(words: &[u16], r: usize) -> usize
     requires { ⌜ 4 + r < length (now words) ⌝ }
     ensures { λ b. ⌜ b ≡ entry (now (words .entry)) r ⌝ }
 {
@@ -332,7 +339,7 @@ fn symbols_on(area: &[u16], from: usize, head: usize) -> usize
 
 // The least rule whose right side is the handle on the slots from `from` up to `head`: one with as many words as the handle has symbols, its
 // words compared with the symbols where they lie.
-pub fn match_rule(words: &[u16], area: &[u16], from: usize, head: usize) -> Matched
+pub(crate) fn match_rule(words: &[u16], area: &[u16], from: usize, head: usize) -> Matched
     requires { ⌜ Readable (now words) × Whole (now area) head from × (slotAt (now area) head ≤ length (now area)) × (from < head) ⌝ }
     ensures { λ r. ⌜ r ≡ matchedOf (matchWords (now (words .entry)) (handleWords (now (area .entry)) from head)) ⌝ }
 {

@@ -62,7 +62,7 @@ fn report_of(area: &[u16], out: &mut [u16]) -> ReportAnswer
 }
 
 // The answer of a report: 16 where chunk 0 is not alone or not at rest, what chunk 0 is stuck with, or its report.
-pub fn outcome(area: &[u16], out: &mut [u16]) -> ReportAnswer
+pub(crate) fn outcome(area: &[u16], out: &mut [u16]) -> ReportAnswer
     requires { ⌜ Reportable (now area) ⌝ }
     ensures { λ r. ⌜ r ≡ outcomeAnswer (wordsOutcome (now (area .entry))) (length (now (out .entry))) ⌝ }
     ensures { λ _. ⌜ now (out .exit) ≡ outcomeOut (wordsOutcome (now (area .entry))) (now (out .entry)) ⌝ }

@@ -9,7 +9,7 @@ ghost use Rattle.start.specs.StartChecks.{placeBelow, badTokens, badCuts
 ghost use Rattle.start.specs.StartWords.{startRow, startRows, startSlot, startSlots, startWords};
 
 // 9: the place of the first token outside 1..t, or else how many there are.
-pub fn first_bad_token(tokens: &[u16], t: u16) -> usize
+pub(crate) fn first_bad_token(tokens: &[u16], t: u16) -> usize
     ensures { λ r. ⌜ badTokens t (now (tokens .entry)) ≡ placeBelow r (length (now (tokens .entry))) ⌝ }
 {
     let mut i = 0;
@@ -24,7 +24,7 @@ pub fn first_bad_token(tokens: &[u16], t: u16) -> usize
 }
 
 // 10: 63 if there are more cuts, else the place of the first cut above n or below its predecessor, or else how many there are.
-pub fn first_bad_cut(cuts: &[u16], n: u16) -> usize
+pub(crate) fn first_bad_cut(cuts: &[u16], n: u16) -> usize
     ensures { λ r. ⌜ (badCuts n (now (cuts .entry)) ≡ placeBelow r (length (now (cuts .entry)))) × (r ≤ 63) ⌝ }
 {
     let count = cuts.len();
@@ -113,7 +113,7 @@ fn write_slots(area: &mut [u16], tokens: &[u16], base: usize)
 }
 
 // The words of the row's start, and no word beyond: n, C, no moves, no reductions made; the table; the slots and the reductions.
-pub fn write(area: &mut [u16], tokens: &[u16], cuts: &[u16])
+pub(crate) fn write(area: &mut [u16], tokens: &[u16], cuts: &[u16])
     requires { ⌜ Writable (now tokens) (now cuts) (length (now area)) ⌝ }
     ensures { λ _. ⌜ now (area .exit) ≡ sets (now (area .entry)) 0 (startWords (now (tokens .entry)) (now (cuts .entry))) ⌝ }
 {

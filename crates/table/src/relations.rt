@@ -175,7 +175,7 @@ fn table_of(words: &[u16]) -> [u8; 4096]
 
 // Check 6, the least 64a + b of a pair a, b with two relations, and then 11: the matrix has no room in fewer than 4,096 bytes.
 // After both it is copied to the lent bytes; those beyond are untouched.
-pub fn write_matrix(words: &[u16], matrix: &mut [u8]) -> Answer
+pub(crate) fn write_matrix(words: &[u16], matrix: &mut [u8]) -> Answer
     requires { ⌜ Passed (now words) ⌝ }
     ensures answer { λ r. ⌜ r ≡ loadAnswer (now (words .entry)) (length (now (matrix .entry))) ⌝ }
     ensures bytes { λ r. ⌜ now (matrix .exit) ≡ loadBytes (now (words .entry)) (now (matrix .entry)) ⌝ }

@@ -66,7 +66,7 @@ fn pass(words: &[u16], masks: &mut [u64; 64], from_end: bool) -> bool
 }
 
 // The left sets of all nonterminals, or the right sets: passes from empty sets until one changes nothing.
-pub fn masks(words: &[u16], from_end: bool) -> [u64; 64]
+pub(crate) fn masks(words: &[u16], from_end: bool) -> [u64; 64]
     requires { ⌜ Passed (now words) ⌝ }
     ensures { λ r. ⌜ Members (sided «from_end» (grammarOf (now (words .entry)))) r ⌝ }
 {

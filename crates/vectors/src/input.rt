@@ -3,14 +3,14 @@ ghost use Prim.Native.Nat.{_<_, _≤_};
 ghost use lib.ListN.{length};
 
 // A byte as a wider number.
-pub fn wide_byte(byte: u8) -> u64
+pub(crate) fn wide_byte(byte: u8) -> u64
     ensures { λ r. ⌜ r < 256 ⌝ }
 {
     byte as u64
 }
 
 // The next word of the input; 65,536 where there is none.
-pub fn next_word() -> u32
+pub(crate) fn next_word() -> u32
     ensures { λ r. ⌜ r ≤ 65536 ⌝ }
 {
     let mut two = [0u8; 2];
@@ -24,12 +24,12 @@ pub fn next_word() -> u32
 }
 
 // The next word as a word.
-pub fn next_value() -> u16 {
+pub(crate) fn next_value() -> u16 {
     (next_word() % 65536) as u16
 }
 
 // A number of two words, the low one first.
-pub fn next_wide() -> u32 {
+pub(crate) fn next_wide() -> u32 {
     let low = next_word() % 65536;
     let high = next_word() % 65536;
     low + 65536 * high
@@ -60,7 +60,7 @@ fn read_piece(run: &mut [u16], at: usize) -> usize
 }
 
 // Reads a run, the number of its pieces and then those, and answers its length.
-pub fn read_run(run: &mut [u16]) -> usize
+pub(crate) fn read_run(run: &mut [u16]) -> usize
     ensures { λ r. ⌜ r ≤ length (now (run .entry)) ⌝ }
 {
     let mut left = next_word();
@@ -73,7 +73,7 @@ pub fn read_run(run: &mut [u16]) -> usize
 }
 
 // A run of one word all over.
-pub fn fill_words(run: &mut [u16], word: u16) {
+pub(crate) fn fill_words(run: &mut [u16], word: u16) {
     let mut i = 0;
     while i < run.len() {
         run[i] = word;
@@ -82,7 +82,7 @@ pub fn fill_words(run: &mut [u16], word: u16) {
 }
 
 // The words of one run put into another, as far as both reach.
-pub fn copy_words(from: &[u16], to: &mut [u16]) {
+pub(crate) fn copy_words(from: &[u16], to: &mut [u16]) {
     let mut i = 0;
     while i < to.len() {
         if from.len() <= i {
@@ -94,7 +94,7 @@ pub fn copy_words(from: &[u16], to: &mut [u16]) {
 }
 
 // The words of a run as bytes, as far as both reach.
-pub fn copy_bytes(from: &[u16], to: &mut [u8]) {
+pub(crate) fn copy_bytes(from: &[u16], to: &mut [u8]) {
     let mut i = 0;
     while i < to.len() {
         if from.len() <= i {
@@ -106,14 +106,14 @@ pub fn copy_bytes(from: &[u16], to: &mut [u8]) {
 }
 
 // Puts a word at a place of a run, if it has that place.
-pub fn change_word(run: &mut [u16], at: usize, word: u16) {
+pub(crate) fn change_word(run: &mut [u16], at: usize, word: u16) {
     if at < run.len() {
         run[at] = word;
     }
 }
 
 // The same for a byte of a matrix.
-pub fn change_byte(matrix: &mut [u8; 4096], at: usize, word: u16) {
+pub(crate) fn change_byte(matrix: &mut [u8; 4096], at: usize, word: u16) {
     if at < 4096 {
         matrix[at] = (word % 256) as u8;
     }

@@ -210,7 +210,7 @@ fn schedule(
 
 // Kinds 4 and 5: tokens, cuts, how many words the area has, and a schedule, whose answers kind 4 shows one by one. The area's words
 // are nines at first.
-pub fn row_case(aloud: bool, words: &mut [u16], matrix: &mut [u8; 4096]) {
+pub(crate) fn row_case(aloud: bool, words: &mut [u16], matrix: &mut [u8; 4096]) {
     let mut tokens = [0u16; 16400];
     let mut cuts = [0u16; 80];
     let mut area = [9u16; 115100];
@@ -247,7 +247,7 @@ fn show_entries(report: &[u16], tokens: &[u16]) {
 }
 
 // Kind 7: tokens, a report's run, and the entries whose tokens are asked.
-pub fn entries_case() {
+pub(crate) fn entries_case() {
     let mut tokens = [0u16; 16400];
     let mut report = [0u16; 49200];
     let n = input::read_run(&mut tokens);

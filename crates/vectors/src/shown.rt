@@ -16,11 +16,11 @@ pub struct Told {
     pub more: u32,
 }
 
-pub fn line_end() {
+pub(crate) fn line_end() {
     io::write_all(STDOUT_FILENO, b"\n");
 }
 
-pub fn show(n: u64) {
+pub(crate) fn show(n: u64) {
     io::print_decimal(STDOUT_FILENO, n);
     io::write_all(STDOUT_FILENO, b" ");
 }
@@ -33,7 +33,7 @@ fn refused(refusal: Refusal) -> Told {
     }
 }
 
-pub fn told_answer(answer: Answer) -> Told {
+pub(crate) fn told_answer(answer: Answer) -> Told {
     match answer {
         Answer::Done => Told {
             number: 0,
@@ -44,7 +44,7 @@ pub fn told_answer(answer: Answer) -> Told {
     }
 }
 
-pub fn told_run(answer: RunAnswer) -> Told {
+pub(crate) fn told_run(answer: RunAnswer) -> Told {
     match answer {
         RunAnswer::Moves(made) => Told {
             number: 0,
@@ -55,7 +55,7 @@ pub fn told_run(answer: RunAnswer) -> Told {
     }
 }
 
-pub fn told_report(answer: ReportAnswer) -> Told {
+pub(crate) fn told_report(answer: ReportAnswer) -> Told {
     match answer {
         ReportAnswer::Report(entries, moves) => Told {
             number: 0,
@@ -67,7 +67,7 @@ pub fn told_report(answer: ReportAnswer) -> Told {
 }
 
 // Number and value of an answer.
-pub fn show_answer(answer: Answer) {
+pub(crate) fn show_answer(answer: Answer) {
     let it = told_answer(answer);
     show(it.number as u64);
     show(it.value);
@@ -81,7 +81,7 @@ fn show_told(it: Told) {
 }
 
 // A set's answer, on a line of its own.
-pub fn show_set(answer: SetAnswer) {
+pub(crate) fn show_set(answer: SetAnswer) {
     match answer {
         SetAnswer::Terminals(mask, size) => show_told(Told {
             number: 0,
@@ -94,7 +94,7 @@ pub fn show_set(answer: SetAnswer) {
 }
 
 // A sum that tells numbers at their places apart, with one more number.
-pub fn folded(sum: u64, one: u64) -> u64 {
+pub(crate) fn folded(sum: u64, one: u64) -> u64 {
     ((sum % 4294967291) * 31 + one % 4294967291 + 1) % 4294967291
 }
 
@@ -103,7 +103,7 @@ fn wide_word(word: u16) -> u64 {
 }
 
 // The sum of a run of bytes, and of words.
-pub fn sum_of_bytes(bytes: &[u8]) -> u64 {
+pub(crate) fn sum_of_bytes(bytes: &[u8]) -> u64 {
     let mut sum: u64 = 0;
     let mut i = 0;
     while i < bytes.len() {
@@ -113,7 +113,7 @@ pub fn sum_of_bytes(bytes: &[u8]) -> u64 {
     sum
 }
 
-pub fn sum_of_words(words: &[u16]) -> u64 {
+pub(crate) fn sum_of_words(words: &[u16]) -> u64 {
     let mut sum: u64 = 0;
     let mut i = 0;
     while i < words.len() {
@@ -124,7 +124,7 @@ pub fn sum_of_words(words: &[u16]) -> u64 {
 }
 
 // The bytes that are not 0, each after its place.
-pub fn show_bytes(bytes: &[u8]) {
+pub(crate) fn show_bytes(bytes: &[u8]) {
     let mut i = 0;
     while i < bytes.len() {
         let byte = wide_byte(bytes[i]);
@@ -137,7 +137,7 @@ pub fn show_bytes(bytes: &[u8]) {
 }
 
 // All the words of a run.
-pub fn show_words(words: &[u16]) {
+pub(crate) fn show_words(words: &[u16]) {
     let mut i = 0;
     while i < words.len() {
         show(wide_word(words[i]));
@@ -147,7 +147,7 @@ pub fn show_words(words: &[u16]) {
 }
 
 // An answer and a sum of what was lent, as one more of the sums before; on a line of their own where that is asked.
-pub fn tell(before: u64, it: Told, sum: u64, aloud: bool) -> u64 {
+pub(crate) fn tell(before: u64, it: Told, sum: u64, aloud: bool) -> u64 {
     if aloud {
         show_told(it);
         show(sum);

@@ -5,7 +5,7 @@ ghost use Prim.Native.Nat.{_≤_};
 ghost use lib.ListN.{length};
 
 // Kind 6: a grammar's words, and their matrix in 4,096 bytes that were 0: the answer of load and the bytes' sum. How many words.
-pub fn new_grammar(words: &mut [u16], matrix: &mut [u8; 4096]) -> usize
+pub(crate) fn new_grammar(words: &mut [u16], matrix: &mut [u8; 4096]) -> usize
     ensures { λ r. ⌜ r ≤ length (now (words .entry)) ⌝ }
 {
     let count = input::read_run(words);
@@ -30,7 +30,7 @@ fn load_case(words: &[u16], run: &mut [u8], room: usize, whole: bool) {
 }
 
 // A case of kinds 0 to 3; kinds 2 and 3 ask for a left set and for a right set.
-pub fn table_case(kind: u32, words: &[u16]) {
+pub(crate) fn table_case(kind: u32, words: &[u16]) {
     let asked = input::next_word();
     if kind < 2 {
         let mut run = [7u8; 5000];

@@ -86,7 +86,7 @@ fn read_each(bytes: &[u8]) {
 }
 
 // Kind 8: a text, byte by byte, and the sizes of the pieces that it is read in.
-pub fn reading_case() {
+pub(crate) fn reading_case() {
     let mut run = [0u16; 16400];
     let mut bytes = [0u8; 16400];
     let n = input::read_run(&mut run);
@@ -125,7 +125,7 @@ fn put_lines(bytes: &mut [u8]) {
 }
 
 // Kind 9: how many bytes there are for them, each a `#`, and lines of an answer.
-pub fn writing_case() {
+pub(crate) fn writing_case() {
     let mut bytes = [b'#'; 16400];
     let room = input::next_word() as usize;
     if room <= 16400 {

@@ -19,7 +19,7 @@ ghost use Rattle.words.specs.Places.{Lies};
 ghost use Rattle.words.specs.Twins.{Fitting, sameRight};
 
 // The word at place i.
-pub fn word(words: &[u16], i: usize) -> usize
+pub(crate) fn word(words: &[u16], i: usize) -> usize
     requires { ⌜ i < length (now words) ⌝ }
     ensures is { λ r. ⌜ r ≡ word (now (words .entry)) i ⌝ }
     ensures small { λ r. ⌜ r < 65536 ⌝ }
@@ -81,7 +81,7 @@ fn bad_head(words: &[u16], i: usize) -> bool
 }
 
 // The first of the 4 head words that is absent or out of its range; where none is, 2 and 3 decide.
-pub fn head(words: &[u16]) -> Answer
+pub(crate) fn head(words: &[u16]) -> Answer
     ensures { λ r. ⌜ r ≡ checked (headStage ∷ contentsStage ∷ symbolStage ∷ []) (now (words .entry)) ⌝ }
 {
     let mut i: usize = 0;
@@ -189,7 +189,7 @@ fn bad_form(words: &[u16], r: usize) -> bool
 }
 
 // The first rule whose right side has two adjacent nonterminals, or no terminal; where none has, 5 decides.
-pub fn forms(words: &[u16]) -> Answer
+pub(crate) fn forms(words: &[u16]) -> Answer
     requires { ⌜ Laid (now words) ⌝ }
     ensures { λ r. ⌜ r ≡ checked (formStage ∷ twinStage ∷ []) (now (words .entry)) ⌝ }
 {
