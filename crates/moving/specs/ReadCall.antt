@@ -5,10 +5,12 @@
 --
 -- Main definitions: readAnswer, readArea. Main statements: read-begins, read-refused, can-start, read-leaves; not-read, read-few, read-runs, read-moved.
 use mathlib.Core.Path.{_≡_, refl, sym, ap, subst, _∙_}
-use mathlib.Core.Bool.{Bool, true, false}
+use mathlib.Core.Bool.{true}
 use mathlib.Core.List.{List, [], _∷_, _++_}
 use Prim.Native.Nat.{ℕ, _+_, _*_, _≤_}
 use lib.ListN.{length, drop}
+use borrow.Author.Tests.{not-true, not-false}
+use Rattle.laws.specs.Tests.{false-unless}
 use Rattle.refusals.specs.declared.Refusal.{Refusal}
 use Rattle.refusals.specs.declared.Answer.{Answer}
 use Rattle.refusals.specs.declared.Answer.the-variants.{Done, Refused}
@@ -68,11 +70,7 @@ module _ (words bytes tokens area : List ℕ) where
     can-start = starts-exactly words bytes tokens [] (length area) .0 (sym read-begins ∙ done)
 
     shape : grammarInShape words bytes ≡ true
-    shape = go (grammarInShape words bytes) refl
-      where
-        go : (b : Bool) → grammarInShape words bytes ≡ b → b ≡ true
-        go true e = refl
-        go false e = absurd (can-start .in-shape 0 (grammar-broken e refl))
+    shape = not-false _ (false-unless _ (λ e. can-start .in-shape 0 (grammar-broken (not-true _ e) refl)))
 
     abbrev rest : List ℕ
     rest = drop (need (length tokens) 1) area
