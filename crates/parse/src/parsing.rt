@@ -22,13 +22,6 @@ pub(crate) fn read(words: &[u16], tokens: &[u16], area: &mut [u16]) -> Answer
     reader::read_through(words, &matrix, tokens, area)
 }
 
-// The count of moves, which stands in two words.
-fn moves_of(low: u16, high: u16) -> u32
-    ensures { λ r. ⌜ r ≡ low + 65536 * high ⌝ }
-{
-    (low as u32) + 65536 * (high as u32)
-}
-
 // The first words of one run put in at the front of another.
 fn put_words(from: &[u16], to: &mut [u16], count: usize)
     requires { ⌜ (count ≤ length (now from)) × (count ≤ length (now to)) ⌝ }
@@ -58,7 +51,8 @@ fn outcome(area: &[u16], out: &mut [u16]) -> ReportAnswer
     }
     let made = 18 + 4 * (area[0] as usize);
     put_words(&area[made..], out, size);
-    ReportAnswer::Report(count, moves_of(area[2], area[3]))
+    let moves = (area[2] as u32) + 65536 * (area[3] as u32);
+    ReportAnswer::Report(count, moves)
 }
 
 // So many words at the front of an area put to 0.

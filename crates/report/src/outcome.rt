@@ -28,13 +28,6 @@ fn alone(area: &[u16], count: usize) -> bool
     true
 }
 
-// The count of moves, which stands in two words.
-fn moves_of(low: u16, high: u16) -> u32
-    ensures { λ r. ⌜ r ≡ low + 65536 * high ⌝ }
-{
-    (low as u32) + 65536 * (high as u32)
-}
-
 // The reductions made, put in order at the front of a run.
 fn write_report(area: &[u16], count: usize, out: &mut [u16])
     requires { ⌜ Reportable (now area) × (count ≡ getD (now area) 4 0) × (3 * count ≤ length (now out)) ⌝ }
@@ -58,7 +51,8 @@ fn report_of(area: &[u16], out: &mut [u16]) -> ReportAnswer
         return ReportAnswer::Refused(Refusal::NoRoom(3 * count));
     }
     write_report(area, count as usize, out);
-    ReportAnswer::Report(count, moves_of(area[2], area[3]))
+    let moves = (area[2] as u32) + 65536 * (area[3] as u32);
+    ReportAnswer::Report(count, moves)
 }
 
 // The answer of a report: 16 where chunk 0 is not alone or not at rest, what chunk 0 is stuck with, or its report.

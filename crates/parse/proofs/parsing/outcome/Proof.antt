@@ -39,8 +39,8 @@ cast-size c = search needs
 mul-size : tie.Need-mul-size
 mul-size c = search needs
 
-mul-t17 : tie.Need-mul-t17
-mul-t17 c = search needs
+mul-t18 : tie.Need-mul-t18
+mul-t18 c = search needs
 
 returns-2 : tie.Need-returns-2
 returns-2 c =
@@ -75,25 +75,34 @@ part-put-words-end c = omega arith
 put-words-requires : tie.Need-put-words-requires
 put-words-requires c κs = search needs
 
-shared-slice-read-moves-of : tie.Need-shared-slice-read-moves-of
-shared-slice-read-moves-of c = search needs
+shared-slice-read-moves : tie.Need-shared-slice-read-moves
+shared-slice-read-moves c = search needs
 
-shared-slice-read-moves-of-2 : tie.Need-shared-slice-read-moves-of-2
-shared-slice-read-moves-of-2 c = search needs
+cast-moves : tie.Need-cast-moves
+cast-moves c = omega (arith, c .shared-slice-known6 .given 2)
 
-moves-of-requires : tie.Need-moves-of-requires
-moves-of-requires c κs = search needs
+shared-slice-read-moves-2 : tie.Need-shared-slice-read-moves-2
+shared-slice-read-moves-2 c = search needs
+
+cast-moves-2 : tie.Need-cast-moves-2
+cast-moves-2 c = omega (arith, c .shared-slice-known7 .given 3)
+
+mul-moves : tie.Need-mul-moves
+mul-moves c = omega (arith, c .shared-slice-known7 .given 3)
+
+add-moves : tie.Need-add-moves
+add-moves c = omega (arith, c .shared-slice-known7 .given 2, c .shared-slice-known7 .given 3)
 
 same-length : tie.Need-same-length
 same-length c = search needs
 
 returns-3 : tie.Need-returns-3
 returns-3 c =
-    let s = c .before .before .before .before .before .before .before .before .before .before .before .before .before .before .before in
-    let rests = c .before .before .before .before .before .before .before .before .before .before .before .if1 .left in
+    let s = c .before .before .before .before .before .before .before .before .before .before .before .before .before .before in
+    let rests = c .before .before .before .before .before .before .before .before .before .before .if1 .left in
     room (s .args .area .now) (s .args .out .now) (at-rest (s .args .area .now) (is-alone (s .pre)) refl rests (s .pre .ended rests))
-    (c .before .before .before .before .before .before .before .before .before .if2 .left) (c .moves-of .ensures)
-    (written (s .pre) (s .args .out .now) rests (c .before .before .before .before .before .put-words .ensures))
+    (c .before .before .before .before .before .before .before .before .if2 .left) refl
+    (written (s .pre) (s .args .out .now) rests (c .before .before .before .before .put-words .ensures))
 
 pub outcome-spec : {M : Type 1} → statement M
 outcome-spec =
@@ -109,7 +118,7 @@ outcome-spec =
     cast-count
     cast-size
     mul-size
-    mul-t17
+    mul-t18
     returns-2
     shared-slice-read-made
     cast-made
@@ -120,8 +129,11 @@ outcome-spec =
     part-put-words-start
     part-put-words-end
     put-words-requires
-    shared-slice-read-moves-of
-    shared-slice-read-moves-of-2
-    moves-of-requires
+    shared-slice-read-moves
+    cast-moves
+    shared-slice-read-moves-2
+    cast-moves-2
+    mul-moves
+    add-moves
     same-length
     returns-3)
