@@ -1,33 +1,35 @@
 -- The rows of all rules, with # and the axioms, are the relations; their conflicts and entries are the definition's.
 -- Document 01, "Sets and matrix": "# yields to each member of an axiom's left set; each member of an axiom's right set takes over
 -- #; # equals #. blank (0): none of these"; 6 CONFLICT "a pair has two relations", "least 64a + b".
--- Rests on Shown, and on language's RelationTests, RelationPairs, Conflicts and Matrix.
+-- Rests on Shown and Filled, and on language's RelationTests, RelationPairs, Conflicts and Matrix.
 --
--- Main definitions: shownIn, Seen, endTest, Union, testOf, Shows, pairNumber, entryIn, markedAt.
--- Main statements: ends-seen, seen-more, shows, entry-is, marked-clash, marked-free, marked-matrix.
+-- Main definitions: shownIn, Seen, endTest, Union, testOf, Shows, pairNumber, numberIn, entryIn, markedAt.
+-- Main statements: ends-seen, seen-more, shows, entry-is, entry-none, table-more, table-whole, marked-clash, marked-free, marked-matrix.
 use mathlib.Core.Path.{_≡_, refl, sym, ap, ap₂, _∙_, fun-ext}
-use mathlib.Core.Bool.{Bool, true, false, _&&_, _||_, or-true, or-false, or-comm, or-assoc}
+use mathlib.Core.Logic.{_⊎_, inl, inr}
+use mathlib.Core.Bool.{Bool, true, false, _&&_, _||_, and-false, or-true, or-false, or-comm, or-assoc}
 use mathlib.Core.List.{List, [], _∷_, _++_}
-use Prim.Native.Nat.{ℕ, zero, suc, _+_, _/_, _%_, _≤_, _<_}
+use Prim.Native.Nat.{ℕ, zero, suc, _+_, _*_, _/_, _%_, _≤_, _<_}
 use native.Mathlib.Omega.{arith}
 use native.Mathlib.Numerals.{add-one}
 use native.Mathlib.Decide.{ℕ-discrete}
-use lib.Dec.{eqb}
+use lib.Dec.{eqb, leb}
 use lib.ListN.{length, getD, set, replicate, length-replicate, length-set}
-use lib.Seq.{getD-set-same, getD-set-other}
+use lib.Seq.{sets, getD-set-same, getD-set-other}
 use Rattle.laws.specs.Picks.{pick}
-use Rattle.laws.specs.Tests.{any, any-cons, upTo, anyBelow, not-both, false-unless, eq-eqb, ne-eqb}
+use Rattle.laws.specs.Tests.{any, any-cons, upTo, anyBelow, eq-eqb, ne-eqb, lt-leb}
 use Rattle.laws.specs.Least.{Clear}
 use Rattle.laws.specs.Tabulate.{tabulate, tabulateFrom, getD-tabulate}
 use Rattle.laws.specs.Masks.{bit, bit-pow}
 use Rattle.language.specs.Symbols.{Symbol, Relation, blank, yields, equal, takes, relationNumber}
 use Rattle.language.specs.Grammar.{Grammar, ruleAt, inPlay, mirrored}
 use Rattle.language.specs.RightSides.{Pattern, this, one, fits, somewhere}
-use Rattle.language.specs.SetMasks.{InRange, leftMember}
-use Rattle.language.specs.RelationTests.{equalTest, yieldsTest, takesTest, startsAxiom, endsAxiom, inUse, firstOf, relationOf, equal-exactly, yields-exactly, takes-exactly}
-use Rattle.language.specs.RelationPairs.{in-use, equal-pair, yields-pair, takes-pair}
+use Rattle.language.specs.SetMasks.{leftMember}
+use Rattle.language.specs.RelationTests.{equalTest, yieldsTest, takesTest, startsAxiom, endsAxiom, inUse, firstOf, relationOf}
+use Rattle.language.specs.RelationPairs.{in-use}
 use Rattle.language.specs.Conflicts.{twoOf, clash, clashAt}
 use Rattle.language.specs.Matrix.{entryAt, number-small}
+use Rattle.table.specs.Filled.{Rowed, rowed-more, rowed-whole}
 use Rattle.table.specs.MaskRows.{none-bit}
 use Rattle.table.specs.Shown.{holds, Adds, here, anywhere, row-same}
 use Rattle.table.specs.SetPasses.{AreSets}
@@ -197,51 +199,57 @@ two-is true false t = or-false t
 two-is false true t = refl
 two-is false false t = refl
 
+-- what the rows say of a pair; and of the pair at v
+abbrev pub numberIn : List ℕ → ℕ → ℕ → ℕ
+numberIn rows a b = pairNumber (holds rows equal a b) (holds rows yields a b) (holds rows takes a b)
+
 abbrev pub entryIn : List ℕ → ℕ → ℕ
-entryIn rows v = pairNumber (holds rows equal (v / 64) (v % 64)) (holds rows yields (v / 64) (v % 64)) (holds rows takes (v / 64) (v % 64))
+entryIn rows v = numberIn rows (v / 64) (v % 64)
+
+pub number-at : (rows : List ℕ) (a b : ℕ) → b < 64 → numberIn rows a b ≡ entryIn rows (64 * a + b)
+number-at rows a b h =
+    let p : (64 * a + b) / 64 ≡ a = omega arith in
+    let q : (64 * a + b) % 64 ≡ b = omega arith in
+    rw (p, q)
 
 -- the matrix's entry, and 4 for a conflict
 abbrev pub markedAt : Grammar → ℕ → ℕ
 markedAt g v = pick (clashAt g v) 4 (entryAt g v)
 
--- a pair is unused only if one of the two is past T
-not-used : (g : Grammar) (a b : ℕ) → inUse g a b ≡ false → a ≤ g .terminals → b ≤ g .terminals → ⊥
-not-used g a b u p q = not-both (inUse g a b) (in-use g a b p q) u
+module _ (g : Grammar) (a b : ℕ) where
+  -- the number of a pair that is used, by the three tests
+  used-number : inUse g a b ≡ true
+      → pairNumber (equalTest g a b) (yieldsTest g a b) (takesTest g a b) ≡ pick (clash g a b) 4 (relationNumber (relationOf g a b))
+  unfolding clash relationOf
+  used-number e = rw (e, clash, relationOf)
 
-module _ {g : Grammar} (range : InRange g) where
-  -- an unused pair has no relation
-  unused : (a b : ℕ) → inUse g a b ≡ false → (k : Relation) → testOf g k a b ≡ false
-  unused a b u blank = refl
-  unused a b u yields = false-unless (yieldsTest g a b) (λ t. let p = yields-pair range (yields-exactly range a b .0 t) in not-used g a b u (p .left-used) (p .right-used))
-  unused a b u equal = false-unless (equalTest g a b) (λ t. let p = equal-pair range (equal-exactly g a b .0 t) in not-used g a b u (p .left-used) (p .right-used))
-  unused a b u takes = false-unless (takesTest g a b) (λ t. let p = takes-pair range (takes-exactly range a b .0 t) in not-used g a b u (p .left-used) (p .right-used))
+  -- of one that is not used
+  unused-number : inUse g a b ≡ false → pick (clash g a b) 4 (relationNumber (relationOf g a b)) ≡ 0
+  unfolding clash relationOf
+  unused-number e = rw (e, clash, relationOf)
 
-  -- so the tests of a pair need not ask whether it is used
-  clash-is : (a b : ℕ) → twoOf (equalTest g a b) (yieldsTest g a b) (takesTest g a b) ≡ clash g a b
-  unfolding clash
-  clash-is a b = go (inUse g a b) refl
-    where
-      go : (u : Bool) → inUse g a b ≡ u
-          → twoOf (equalTest g a b) (yieldsTest g a b) (takesTest g a b) ≡ (elim u [ false ↦ false | true ↦ twoOf (equalTest g a b) (yieldsTest g a b) (takesTest g a b) ])
-      go true e = refl
-      go false e = rw (unused a b e equal, unused a b e yields)
-
-  relation-is : (a b : ℕ) → firstOf (equalTest g a b) (yieldsTest g a b) (takesTest g a b) ≡ relationOf g a b
-  unfolding relationOf
-  relation-is a b = go (inUse g a b) refl
-    where
-      go : (u : Bool) → inUse g a b ≡ u
-          → firstOf (equalTest g a b) (yieldsTest g a b) (takesTest g a b) ≡ (elim u [ false ↦ blank | true ↦ firstOf (equalTest g a b) (yieldsTest g a b) (takesTest g a b) ])
-      go true e = refl
-      go false e = rw (unused a b e equal, unused a b e yields, unused a b e takes)
-
-  -- the rows have the matrix's entries, and 4 for a conflict
-  pub entry-is : (rows : List ℕ) → Shows g rows → (v : ℕ) → v < 4096 → entryIn rows v ≡ markedAt g v
-  entry-is rows are v h =
-      let i : v / 64 < 64 = omega arith in
+module _ (g : Grammar) (v : ℕ) where
+  -- the rows have the matrix's entries, and 4 for a conflict, where both numbers are at most T
+  pub entry-is : (rows : List ℕ) → Shows g rows → v / 64 < 64 → v / 64 ≤ g .terminals → v % 64 ≤ g .terminals → entryIn rows v ≡ markedAt g v
+  entry-is rows are i p q =
       let j : v % 64 < 64 = omega arith in
       rw (are equal (v / 64) (v % 64) i j, are yields (v / 64) (v % 64) i j, are takes (v / 64) (v % 64) i j)
-      (ap₂ (λ (two : Bool) (entry : ℕ). pick two 4 entry) (clash-is (v / 64) (v % 64)) (ap relationNumber (relation-is (v / 64) (v % 64))))
+      (used-number g (v / 64) (v % 64) (in-use g (v / 64) (v % 64) p q))
+
+  -- past T there is none
+  pub entry-none : (g .terminals < v / 64) ⊎ (g .terminals < v % 64) → markedAt g v ≡ 0
+  entry-none (inl h) = unused-number g (v / 64) (v % 64) (rw (lt-leb (v / 64) (g .terminals) h))
+  entry-none (inr h) = unused-number g (v / 64) (v % 64) (rw (lt-leb (v % 64) (g .terminals) h) (and-false (leb (v / 64) (g .terminals))))
+
+-- the table after its first a rows: one row more, and all rows up to T's
+module _ (g : Grammar) {a t : ℕ} {table : List ℕ} (all : t ≡ g .terminals) (done : Rowed (markedAt g) 4096 a table) where
+  pub table-more : (rows : List ℕ) → Shows g rows → t < 64 → a ≤ t → Rowed (markedAt g) 4096 (a + 1) (sets table (64 * a) (tabulateFrom (entryIn rows) (t + 1) (64 * a)))
+  table-more rows are low h =
+      rowed-more (markedAt g) 4096 done (entryIn rows) t low (omega arith)
+      (λ v i j. entry-is g v rows are (omega arith) (omega arith) (omega arith)) (λ v i j. entry-none g v (inr (omega arith)))
+
+  pub table-whole : t < a → table ≡ tabulate (markedAt g) 4096
+  table-whole h = rowed-whole (markedAt g) 4096 done (λ v i j. entry-none g v (inl (omega arith)))
 
 -- in the table 4 tells a conflict, and the other numbers that there is none
 module _ (g : Grammar) (table : List ℕ) (is : table ≡ tabulate (markedAt g) 4096) (v : ℕ) (h : v < 4096) where

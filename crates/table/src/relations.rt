@@ -6,16 +6,17 @@ use crate::word;
 use refusals::Answer;
 use refusals::Refusal;
 ghost use mathlib.Core.Path.{_≡_};
-ghost use Prim.Native.Nat.{_≤_, _<_};
+ghost use Prim.Native.Nat.{_+_, _*_, _≤_, _<_};
 ghost use lib.ListN.{length, getD};
+ghost use lib.Seq.{sets};
 ghost use Rattle.laws.specs.Masks.{bit};
-ghost use Rattle.laws.specs.Tabulate.{tabulate};
+ghost use Rattle.laws.specs.Tabulate.{tabulate, tabulateFrom};
 ghost use Rattle.language.specs.Words.{countR, grammarOf};
 ghost use Rattle.language.specs.Checks.{Passed};
 ghost use Rattle.language.specs.Loads.{loadAnswer, loadBytes};
 ghost use Rattle.table.specs.SetPasses.{AreSets};
 ghost use Rattle.table.specs.Shown.{Adds, Paired, shownBy, pairShown};
-ghost use Rattle.table.specs.RelationRows.{Union, shownIn, Seen, Shows, pairNumber, entryIn, markedAt};
+ghost use Rattle.table.specs.RelationRows.{Union, shownIn, Seen, Shows, pairNumber, numberIn, entryIn, markedAt};
 
 // A row, and the members that are added to it.
 struct Added {
@@ -148,27 +149,38 @@ fn number_of(equal: bool, yields: bool, takes: bool) -> u8
     0
 }
 
-// The number of the pair a, b with 64a + b = v.
-fn entry_at(rows: &[u64; 192], v: usize) -> u8
-    requires { ⌜ v < 4096 ⌝ }
-    ensures { λ n. ⌜ n ≡ entryIn (now (rows .entry)) v ⌝ }
+// The number of the pair a, b.
+fn entry_of(rows: &[u64; 192], a: usize, b: usize) -> u8
+    requires { ⌜ (a < 64) × (b < 64) ⌝ }
+    ensures { λ n. ⌜ n ≡ numberIn (now (rows .entry)) a b ⌝ }
 {
-    let a = v / 64;
-    let b = v % 64;
     number_of(has(rows, a, b), has(rows, 64 + a, b), has(rows, 128 + b, a))
 }
 
-// The matrix: a over b at 64a + b, and 4 there where the pair has two relations.
+// Row a of the matrix: the numbers of the pairs a, b with b up to t, from 64a on.
+fn write_row(rows: &[u64; 192], a: usize, t: usize, table: &mut [u8; 4096])
+    requires { ⌜ (a < 64) × (t < 64) ⌝ }
+    ensures { λ _. ⌜ now (table .exit) ≡ sets (now (table .entry)) (64 * a) (tabulateFrom (entryIn (now (rows .entry))) (t + 1) (64 * a)) ⌝ }
+{
+    let mut b: usize = 0;
+    while b <= t {
+        table[64 * a + b] = entry_of(rows, a, b);
+        b += 1;
+    }
+}
+
+// The matrix: a over b at 64a + b, and 4 there where the pair has two relations. A pair with a number past T is unused: its 0 stays.
 fn table_of(words: &[u16]) -> [u8; 4096]
     requires { ⌜ Passed (now words) ⌝ }
     ensures { λ t. ⌜ t ≡ tabulate (markedAt (grammarOf (now (words .entry)))) 4096 ⌝ }
 {
     let rows = relations_of(words);
+    let t = word(words, 0);
     let mut table = [0u8; 4096];
-    let mut v: usize = 0;
-    while v < 4096 {
-        table[v] = entry_at(&rows, v);
-        v += 1;
+    let mut a: usize = 0;
+    while a <= t {
+        write_row(&rows, a, t, &mut table);
+        a += 1;
     }
     table
 }

@@ -1,57 +1,59 @@
--- The table is filled from the front with the pairs' numbers.
-use mathlib.Core.Path.{_≡_, refl, _∙_}
-use Prim.Native.Nat.{ℕ, _-_, _≤_}
+-- The table is filled row by row with the pairs' numbers, up to row T; past T there is none.
+use mathlib.Core.Path.{_≡_}
+use Prim.Native.Nat.{_+_, _-_, _≤_, _<_}
 use native.Mathlib.Omega.{arith}
-use lib.ListN.{length, take, length-set, length-replicate}
-use Rattle.laws.specs.Tabulate.{tabulate}
-use Rattle.table.specs.Filled.{filled-more, filled-whole}
 use Rattle.language.specs.Words.{grammarOf}
-use Rattle.language.specs.WordsInRange.{in-range}
-use Rattle.table.specs.RelationRows.{markedAt, entry-is}
+use Rattle.table.specs.Filled.{Rowed, rowed-none}
+use Rattle.table.specs.Sided.{passed-laid}
+use Rattle.table.specs.RelationRows.{markedAt, table-more, table-whole}
 use Rattle.table.proofs.relations.table_of.Statement.{statement}
 use Rattle.table.proofs.relations.table_of.Tie as tie
 
 abbrev Inv-loop : tie.InvT-loop
-Inv-loop words rows table₀ v₀ table v = (v ≤ 4096) × (length table ≡ 4096) × (take v table ≡ tabulate (markedAt (grammarOf words)) v)
+Inv-loop words rows t table₀ a₀ table a = (a ≤ t + 1) × Rowed (markedAt (grammarOf words)) 4096 a table
 
 abbrev μ-loop : tie.MeasureT-loop
-μ-loop words rows table₀ v₀ table v = 4096 - v
+μ-loop words rows t table₀ a₀ table a = t + 1 - a
+
+-- t is T, and below 64
+terminals : (c : tie.After-word Inv-loop μ-loop) → c .word .result ≡ grammarOf (c .before .before .before .args .words .now) .terminals
+unfolding grammarOf
+terminals c = c .word .ensures
+
+low : (c : tie.After-word Inv-loop μ-loop) → c .word .result < 64
+low c = let s = c .before .before .before in omega (arith, c .word .ensures, passed-laid (s .args .words .now) (s .pre) .headed .terminals)
 
 relations-of-requires : tie.Need-relations-of-requires Inv-loop μ-loop
 relations-of-requires c κs = c .before .pre
 
+word-requires : tie.Need-word-requires Inv-loop μ-loop
+word-requires c κs = let s = c .before .before in omega (arith, passed-laid (s .args .words .now) (s .pre) .present)
+
 loop-holds : tie.Need-loop-holds Inv-loop μ-loop
-loop-holds c = (omega arith, length-replicate {A = ℕ} 4096 0, refl)
+loop-holds c = (omega arith, rowed-none (markedAt (grammarOf (c .before .before .before .args .words .now))) 4096)
 
-entry-at-requires : tie.Need-entry-at-requires Inv-loop μ-loop
-entry-at-requires c κs = omega arith
+write-row-requires : tie.Need-write-row-requires Inv-loop μ-loop
+write-row-requires c κs = let t = low (c .before .before .before .before) in (omega arith, t)
 
-array-write-table : tie.Need-array-write-table Inv-loop μ-loop
-array-write-table c = omega arith
-
-add-v : tie.Need-add-v Inv-loop μ-loop
-add-v c = omega arith
+add-a : tie.Need-add-a Inv-loop μ-loop
+add-a c = let t = low (c .before .before .before .before .before) in omega arith
 
 loop-less : tie.Need-loop-less Inv-loop μ-loop
 loop-less c = omega arith
 
 loop-again : tie.Need-loop-again Inv-loop μ-loop
 loop-again c =
-    let s = c .before .before .before .before .before .before in
-    let l = c .before .before .before .loop in
-    let r = c .before .before .before .before .relations-of in
-    let words = s .args .words .now in (
+    let word = c .before .before .before .before .before in
+    let words = word .before .before .before .args .words .now in
+    let r = word .before .relations-of in (
       omega arith,
-      simp length-set (l .inv .1),
-      filled-more (markedAt (grammarOf words)) (l .table) 4096 (l .inv .1) (l .v) (c .entry-at .result) (omega arith) (l .inv .2)
-          (c .entry-at .ensures ∙ entry-is (in-range words (s .pre .head) (s .pre .symbols)) (r .result) (r .ensures) (l .v) (omega arith)),
+      rw (c .write-row .ensures)
+          (table-more (grammarOf words) (terminals word) (c .before .before .before .before .loop .inv .1)
+          (r .result) (r .ensures) (low word) (c .before .before .before .loop-test .taken)),
     )
 
 returns : tie.Need-returns Inv-loop μ-loop
-returns c =
-    let s = c .before .before .before .before in
-    let l = c .before .loop in
-    filled-whole (markedAt (grammarOf (s .args .words .now))) (l .table) 4096 (l .inv .1) (l .v) (omega arith) (l .inv .0) (l .inv .2)
+returns c = table-whole (grammarOf (c .before .before .before .before .before .args .words .now)) (terminals (c .before .before)) (c .before .loop .inv .1) (c .loop-test .left)
 
 pub table-of-spec : {M : Type 1} → statement M
 table-of-spec =
@@ -60,10 +62,10 @@ table-of-spec =
     Inv-loop
     μ-loop
     relations-of-requires
+    word-requires
     loop-holds
-    entry-at-requires
-    array-write-table
-    add-v
+    write-row-requires
+    add-a
     loop-less
     loop-again
     returns)

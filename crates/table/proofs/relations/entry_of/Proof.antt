@@ -1,7 +1,7 @@
--- The three tests are those of the pair that v names.
+-- The three tests are those of the pair.
 use native.Mathlib.Omega.{arith}
-use Rattle.table.proofs.relations.entry_at.Statement.{statement}
-use Rattle.table.proofs.relations.entry_at.Tie as tie
+use Rattle.table.proofs.relations.entry_of.Statement.{statement}
+use Rattle.table.proofs.relations.entry_of.Tie as tie
 
 has-requires : tie.Need-has-requires
 has-requires c κs = omega arith
@@ -24,5 +24,5 @@ number-of-requires c κs = tt
 returns : tie.Need-returns
 returns c = rw (c .number-of .ensures, c .before .has3 .ensures, c .before .before .has2 .ensures, c .before .before .before .has .ensures)
 
-pub entry-at-spec : {M : Type 1} → statement M
-entry-at-spec = tie.close (tie.spec has-requires add-has has-requires-2 add-has-2 has-requires-3 number-of-requires returns)
+pub entry-of-spec : {M : Type 1} → statement M
+entry-of-spec = tie.close (tie.spec has-requires add-has has-requires-2 add-has-2 has-requires-3 number-of-requires returns)
