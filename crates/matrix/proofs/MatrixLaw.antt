@@ -1,17 +1,20 @@
 -- What the proofs of this crate's functions share: what the answer to 1 to 3 makes of the rules; the tests of a byte, which the code joins
--- by `|`, are the choice that GrammarShape states; all bytes fit where each does.
--- Rests on specs' GrammarShape.
+-- by `|`, are the choice that GrammarShape states; what a test of a run of bytes tells, one byte more, of a row, and of all.
+-- Rests on specs' GrammarShape and Tells.
 --
--- Main statements: passed, refused; byte-past, byte-corner, byte-first, byte-last, byte-inner; byte-here, short-fails, bytes-fit, byte-fails.
-use mathlib.Core.Path.{_≡_, refl, ap, _∙_}
-use mathlib.Core.Bool.{Bool, true, false, _||_, false≢true, true≢false}
+-- Main statements: passed, refused; byte-corner, byte-first, byte-last, byte-inner; byte-here; tells-none, run-more, tells-more,
+-- tells-not, row-told; short-fails, rows-more, part-fails, whole-told.
+use mathlib.Core.Path.{_≡_, refl, sym, ap, _∙_}
+use mathlib.Core.Logic.{_⊎_, inl, inr}
+use mathlib.Core.Bool.{Bool, true, false, _&&_, _||_, false≢true}
 use mathlib.Core.List.{List}
 use Prim.Native.Nat.{ℕ, _+_, _*_, _/_, _%_, _<_, _≤_}
 use native.Mathlib.Omega.{arith}
+use native.Mathlib.Decide.{decLt}
 use lib.Dec.{leb, ltb, eqb}
 use lib.ListN.{length, getD}
-use borrow.Author.Tests.{eq-eqb, ne-eqb, lt-leb, le-leb}
-use Rattle.laws.specs.Tests.{all, upTo, each-all, all-each, upTo-below, below-upTo, false-unless, not-both}
+use borrow.Author.Tests.{eq-eqb, ne-eqb, lt-leb, le-leb, lt-ltb, le-ltb}
+use Rattle.laws.specs.Tests.{all, upTo, each-all, all-each, upTo-below, below-upTo, false-unless, not-both, same-test, and-both, both-and}
 use Rattle.laws.specs.Picks.{pick, both-pick}
 use Rattle.refusals.specs.declared.Refusal.{Refusal}
 use Rattle.refusals.specs.declared.Answer.{Answer}
@@ -19,6 +22,7 @@ use Rattle.refusals.specs.declared.Answer.the-variants.{Done, Refused}
 use Rattle.language.specs.Words.{countT}
 use Rattle.language.specs.Checks.{checkSymbols}
 use Rattle.matrix.specs.GrammarShape.{isDone, byteFits, ruleB, grammarInShape}
+use Rattle.matrix.specs.Tells.{TellsAll, byteAt, zeroAt}
 
 -- ---- (a)
 
@@ -37,70 +41,121 @@ either : (a b : Bool) → (a || b) ≡ pick a true b
 either true b = refl
 either false b = refl
 
-module _ {A : Type 0} (x y : A) where
-  either-left : (a b : Bool) → (a || b) ≡ true → x ≡ pick a x (pick b x y)
-  either-left true b h = refl
-  either-left false true h = refl
-  either-left false false h = absurd (false≢true h)
-
-  neither-left : (a b : Bool) → (a || b) ≡ false → y ≡ pick a x (pick b x y)
-  neither-left true b h = absurd (true≢false h)
-  neither-left false true h = absurd (true≢false h)
-  neither-left false false h = refl
-
--- a byte past t, and one within
-module _ (t a b x : ℕ) where
-  pub byte-past : (ltb t a || ltb t b) ≡ true → eqb x 0 ≡ byteFits t a b x
-  byte-past h = either-left _ _ (ltb t a) (ltb t b) h
-
+-- a byte within t
+module _ (a b x t : ℕ) (h : a ≤ t) (k : b ≤ t) where
   abbrev byteWithin : Bool
   byteWithin = pick (eqb a 0) (pick (eqb b 0) (eqb x 2) (leb x 1)) (pick (eqb b 0) (pick (eqb x 0) true (eqb x 3)) (leb x 3))
 
-  module _ (h : (ltb t a || ltb t b) ≡ false) where
-    within : byteWithin ≡ byteFits t a b x
-    within = neither-left _ _ (ltb t a) (ltb t b) h
+  within : byteWithin ≡ byteFits t a b x
+  within = rw (le-ltb t a h, le-ltb t b k)
 
-    pub byte-corner : a ≡ 0 → b ≡ 0 → eqb x 2 ≡ byteFits t a b x
-    byte-corner p q = let e : eqb x 2 ≡ byteWithin = simp (eq-eqb a 0 p, eq-eqb b 0 q) in e ∙ within
+  pub byte-corner : a ≡ 0 → b ≡ 0 → eqb x 2 ≡ byteFits t a b x
+  byte-corner p q = let e : eqb x 2 ≡ byteWithin = simp (eq-eqb a 0 p, eq-eqb b 0 q) in e ∙ within
 
-    pub byte-first : a ≡ 0 → (b ≡ 0 → ⊥) → leb x 1 ≡ byteFits t a b x
-    byte-first p q = let e : leb x 1 ≡ byteWithin = simp (eq-eqb a 0 p, ne-eqb b 0 q) in e ∙ within
+  pub byte-first : a ≡ 0 → (b ≡ 0 → ⊥) → leb x 1 ≡ byteFits t a b x
+  byte-first p q = let e : leb x 1 ≡ byteWithin = simp (eq-eqb a 0 p, ne-eqb b 0 q) in e ∙ within
 
-    pub byte-last : (a ≡ 0 → ⊥) → b ≡ 0 → (eqb x 0 || eqb x 3) ≡ byteFits t a b x
-    byte-last p q = let e : pick (eqb x 0) true (eqb x 3) ≡ byteWithin = simp (ne-eqb a 0 p, eq-eqb b 0 q) in either (eqb x 0) (eqb x 3) ∙ (e ∙ within)
+  pub byte-last : (a ≡ 0 → ⊥) → b ≡ 0 → (eqb x 0 || eqb x 3) ≡ byteFits t a b x
+  byte-last p q = let e : pick (eqb x 0) true (eqb x 3) ≡ byteWithin = simp (ne-eqb a 0 p, eq-eqb b 0 q) in either (eqb x 0) (eqb x 3) ∙ (e ∙ within)
 
-    pub byte-inner : (a ≡ 0 → ⊥) → (b ≡ 0 → ⊥) → leb x 3 ≡ byteFits t a b x
-    byte-inner p q = let e : leb x 3 ≡ byteWithin = simp (ne-eqb a 0 p, ne-eqb b 0 q) in e ∙ within
+  pub byte-inner : (a ≡ 0 → ⊥) → (b ≡ 0 → ⊥) → leb x 3 ≡ byteFits t a b x
+  byte-inner p q = let e : leb x 3 ≡ byteWithin = simp (ne-eqb a 0 p, ne-eqb b 0 q) in e ∙ within
 
--- ---- (b), every byte
+-- ---- (b), a run of bytes
 
+module _ (test : ℕ → Bool) where
+  pub tells-none : (from : ℕ) → TellsAll test from from true
+  tells-none from = (λ e v i j. absurd (omega arith), λ p. refl)
+
+  -- one place more
+  pub run-more : (from at : ℕ) → ((v : ℕ) → from ≤ v → v < at → test v ≡ true) → test at ≡ true → (v : ℕ) → from ≤ v → v < at + 1 → test v ≡ true
+  run-more from at before here v i j = place (decLt v at)
+    where
+      place : Dec (v < at) → test v ≡ true
+      place (yes l) = before v i l
+      place (no l) = let e : v ≡ at = omega arith in rw e here
+
+  pub tells-more : (from at : ℕ) (r : Bool) → from ≤ at → TellsAll test from at r → TellsAll test from (at + 1) (r && test at)
+  tells-more from at r h tells = (
+    λ e. let p = and-both r (test at) e in run-more from at (tells .0 (p .0)) (p .1),
+    λ p. both-and r (test at) (tells .1 (λ v i j. p v i (omega arith))) (p at h (omega arith)),
+  )
+
+  -- a place that fails
+  pub tells-not : (from end v : ℕ) → from ≤ v → v < end → test v ≡ false → TellsAll test from end false
+  tells-not from end v i j e = (λ p. absurd (false≢true p), λ p. absurd (not-both (test v) (p v i j) e))
+
+  -- the places before mid pass, and from there on another test tells the same
+  rest-told : (other : ℕ → Bool) (from mid end : ℕ) (r : Bool) → from ≤ mid → ((v : ℕ) → from ≤ v → v < mid → test v ≡ true)
+      → ((v : ℕ) → mid ≤ v → v < end → other v ≡ test v) → TellsAll other mid end r → TellsAll test from end r
+  rest-told other from mid end r h before same tells =
+      (λ e v i j. place e v i j (decLt v mid), λ p. tells .1 (λ v i j. same v i j ∙ p v (omega arith) j))
+    where
+      place : r ≡ true → (v : ℕ) → from ≤ v → v < end → Dec (v < mid) → test v ≡ true
+      place e v i j (yes l) = before v i l
+      place e v i j (no l) = sym (same v (omega arith) j) ∙ tells .0 e v (omega arith) j
+
+second : (a b : Bool) → pick a b false ≡ true → b ≡ true
+second true b e = e
+second false b e = absurd (false≢true e)
+
+-- all of the first k, as GrammarShape says it
 module _ (test : ℕ → Bool) (k : ℕ) where
   all-pass : ((v : ℕ) → v < k → test v ≡ true) → all test (upTo k) ≡ true
   all-pass h = each-all test (upTo k) (λ v m. h v (upTo-below k v m))
 
-  one-fails : (v : ℕ) → v < k → test v ≡ false → all test (upTo k) ≡ false
-  one-fails v h e = false-unless (all test (upTo k)) (λ p. not-both (test v) (all-each test (below-upTo k v h) p) e)
-
-second-fails : (a b : Bool) → b ≡ false → pick a b false ≡ false
-second-fails true b k = k
-second-fails false b k = refl
+  each-passes : all test (upTo k) ≡ true → (v : ℕ) → v < k → test v ≡ true
+  each-passes p v h = all-each test (below-upTo k v h) p
 
 module _ (t : ℕ) (matrix : List ℕ) where
-  -- the byte of v / 64 over v % 64
-  abbrev pub byteAt : ℕ → Bool
-  byteAt v = byteFits t (v / 64) (v % 64) (getD matrix v 0)
-
-  pub byte-here : (at a b : ℕ) → at ≡ 64 * a + b → b < 64 → byteAt at ≡ byteFits t a b (getD matrix at 0)
-  byte-here at a b e h =
-      let p : at / 64 ≡ a = omega arith in
-      let q : at % 64 ≡ b = omega arith in
+  pub byte-here : (a b : ℕ) → b < 64 → byteAt t matrix (64 * a + b) ≡ byteFits t a b (getD matrix (64 * a + b) 0)
+  byte-here a b h =
+      let p : (64 * a + b) / 64 ≡ a = omega arith in
+      let q : (64 * a + b) % 64 ≡ b = omega arith in
       rw (p, q)
 
+  -- a byte past t
+  past : (v : ℕ) → (t < v / 64) ⊎ (t < v % 64) → zeroAt matrix v ≡ byteAt t matrix v
+  past v (inl h) = rw (lt-ltb t (v / 64) h)
+  past v (inr h) = rw (lt-ltb t (v % 64) h) (go (ltb t (v / 64)))
+    where
+      go : (b : Bool) → zeroAt matrix v ≡ pick b (zeroAt matrix v) (zeroAt matrix v)
+      go true = refl
+      go false = refl
+
+  -- row a, of which the bytes up to t fit
+  pub row-told : (a b : ℕ) (r : Bool) → t < b → b ≤ 64 → ((v : ℕ) → 64 * a ≤ v → v < 64 * a + b → byteAt t matrix v ≡ true)
+      → TellsAll (zeroAt matrix) (64 * a + b) (64 * a + 64) r → TellsAll (byteAt t matrix) (64 * a) (64 * a + 64) r
+  row-told a b r h k before tells =
+      rest-told (byteAt t matrix) (zeroAt matrix) (64 * a) (64 * a + b) (64 * a + 64) r (omega arith) before (λ v i j. past v (inr (omega arith))) tells
+
+  -- ---- (b), every byte
+
+  -- the rows before a fit, and a too
+  pub rows-more : (a : ℕ) (r : Bool) → ((v : ℕ) → v < 64 * a → byteAt t matrix v ≡ true) → TellsAll (byteAt t matrix) (64 * a) (64 * a + 64) r → r ≡ true
+      → (v : ℕ) → v < 64 * (a + 1) → byteAt t matrix v ≡ true
+  rows-more a r before tells e v h = go (decLt v (64 * a))
+    where
+      go : Dec (v < 64 * a) → byteAt t matrix v ≡ true
+      go (yes l) = before v l
+      go (no l) = tells .0 e v (omega arith) (omega arith)
+
   pub short-fails : length matrix < 4096 → ruleB t matrix ≡ false
-  short-fails h = ap (λ (b : Bool). pick b (all byteAt (upTo 4096)) false) (lt-leb 4096 (length matrix) h)
+  short-fails h = ap (λ (b : Bool). pick b (all (byteAt t matrix) (upTo 4096)) false) (lt-leb 4096 (length matrix) h)
 
-  pub bytes-fit : 4096 ≤ length matrix → ((v : ℕ) → v < 4096 → byteAt v ≡ true) → ruleB t matrix ≡ true
-  bytes-fit long fits = both-pick (leb 4096 (length matrix)) (all byteAt (upTo 4096)) (le-leb 4096 (length matrix) long) (all-pass byteAt 4096 fits)
+  each-fits : ruleB t matrix ≡ true → (v : ℕ) → v < 4096 → byteAt t matrix v ≡ true
+  each-fits e = each-passes (byteAt t matrix) 4096 (second (leb 4096 (length matrix)) (all (byteAt t matrix) (upTo 4096)) e)
 
-  pub byte-fails : (v : ℕ) → v < 4096 → byteAt v ≡ false → ruleB t matrix ≡ false
-  byte-fails v h e = second-fails (leb 4096 (length matrix)) (all byteAt (upTo 4096)) (one-fails byteAt 4096 v h e)
+  -- a part of them that does not fit
+  pub part-fails : (from end : ℕ) (r : Bool) → end ≤ 4096 → TellsAll (byteAt t matrix) from end r → r ≡ false → ruleB t matrix ≡ false
+  part-fails from end r h tells e = false-unless (ruleB t matrix) (λ p. not-both r (tells .1 (λ v i j. each-fits p v (omega arith))) e)
+
+  -- all of them, where the rows up to t fit
+  pub whole-told : (a : ℕ) (r : Bool) → 4096 ≤ length matrix → t < a → ((v : ℕ) → v < 64 * a → byteAt t matrix v ≡ true)
+      → TellsAll (zeroAt matrix) (64 * a) 4096 r → r ≡ ruleB t matrix
+  whole-told a r long h before zeros =
+      let tells = rest-told (byteAt t matrix) (zeroAt matrix) 0 (64 * a) 4096 r (omega arith) (λ v i j. before v j) (λ v i j. past v (inl (omega arith))) zeros in
+      same-test r (ruleB t matrix)
+      (λ e. both-pick (leb 4096 (length matrix)) (all (byteAt t matrix) (upTo 4096)) (le-leb 4096 (length matrix) long)
+      (all-pass (byteAt t matrix) 4096 (λ v j. tells .0 e v (omega arith) j)))
+      (λ e. tells .1 (λ v i j. each-fits e v j))

@@ -1,3 +1,4 @@
 pub mod EndMarkOfShape
 pub mod GrammarShape
+pub mod Tells
 pub mod WordsOfShape

@@ -1,126 +1,111 @@
--- `grammar_in_shape` meets its contract: words that pass 1 to 3 have a head, whose first word is T; the bytes passed fit, so that after
--- 4,096 all do.
+-- `grammar_in_shape` meets its contract: words that pass 1 to 3 have a head, whose first word is T; the rows passed fit; after row T the
+-- rest of the matrix decides.
 use mathlib.Core.Path.{_≡_, sym, ap, _∙_}
 use mathlib.Core.Bool.{true}
 use borrow.Author.Tests.{not-true, not-false}
-use borrow.Author.Count.{below-more}
+use borrow.Author.Needs.{needs}
 use native.Mathlib.Omega.{arith}
 use Prim.Native.Nat.{ℕ, _+_, _*_, _-_, _≤_, _<_}
+use lib.ListN.{length}
 use Rattle.language.specs.Words.{countT}
 use Rattle.matrix.specs.GrammarShape.{isDone, grammarInShape, ruleB}
 use Rattle.matrix.specs.WordsOfShape.{headed}
-use Rattle.matrix.proofs.MatrixLaw.{passed, refused, byteAt, byte-here, short-fails, bytes-fit, byte-fails}
-use borrow.Author.Needs.{needs}
+use Rattle.matrix.specs.Tells.{byteAt}
+use Rattle.matrix.proofs.MatrixLaw.{passed, refused, short-fails, part-fails, rows-more, whole-told}
 use Rattle.matrix.proofs.grammar_in_shape.Statement.{statement}
 use Rattle.matrix.proofs.grammar_in_shape.Tie as tie
 
-abbrev Inv-loop2 : tie.InvT-loop2
-Inv-loop2 words matrix t at₀ a b₀ at b = (b ≤ 64) × (at ≡ 64 * a + b) × ((k : ℕ) → k < at → byteAt t matrix k ≡ true)
-
-abbrev μ-loop2 : tie.MeasureT-loop2
-μ-loop2 words matrix t at₀ a b₀ at b = 64 - b
-
 abbrev Inv-loop : tie.InvT-loop
-Inv-loop words matrix t at₀ a₀ at a = (a ≤ 64) × (at ≡ 64 * a) × ((k : ℕ) → k < at → byteAt t matrix k ≡ true)
+Inv-loop words matrix t a₀ a = (a ≤ t + 1) × ((v : ℕ) → v < 64 * a → byteAt t matrix v ≡ true)
 
 abbrev μ-loop : tie.MeasureT-loop
-μ-loop words matrix t at₀ a₀ at a = 64 - a
+μ-loop words matrix t a₀ a = t + 1 - a
 
 -- past the test of the words
-by-matrix : (c : tie.After-enum-told2 Inv-loop2 μ-loop2 Inv-loop μ-loop)
+by-matrix : (c : tie.After-enum-told2 Inv-loop μ-loop)
     → let a = c .before .before .before .before .before .args in grammarInShape (a .words .now) (a .matrix .now) ≡ ruleB (countT (a .words .now)) (a .matrix .now)
 by-matrix c =
     let a = c .before .before .before .before .before .args in
     passed (a .words .now) (a .matrix .now) (sym (c .before .before .check-symbols .ensures) ∙ c .enum-told2 .given .1)
 
-check-symbols-requires : tie.Need-check-symbols-requires Inv-loop2 μ-loop2 Inv-loop μ-loop
+-- .. the words have a head
+head : (c : tie.After-enum-told2 Inv-loop μ-loop) → let words = c .before .before .before .before .before .args .words .now in (4 ≤ length words) × (countT words < 64)
+head c =
+    let words = c .before .before .before .before .before .args .words .now in
+    let h = headed words (ap isDone (sym (c .before .before .check-symbols .ensures) ∙ c .enum-told2 .given .1)) in
+    (h .0, omega arith)
+
+check-symbols-requires : tie.Need-check-symbols-requires Inv-loop μ-loop
 check-symbols-requires c κs = tt
 
-enum-told : tie.Need-enum-told Inv-loop2 μ-loop2 Inv-loop μ-loop
+enum-told : tie.Need-enum-told Inv-loop μ-loop
 enum-told c = search needs
 
-returns : tie.Need-returns Inv-loop2 μ-loop2 Inv-loop μ-loop
+returns : tie.Need-returns Inv-loop μ-loop
 returns c =
     let a = c .before .before .before .before .before .args in
     sym (refused (a .words .now) (a .matrix .now) (sym (c .before .before .check-symbols .ensures) ∙ c .enum-told .given .1))
 
-enum-told-2 : tie.Need-enum-told-2 Inv-loop2 μ-loop2 Inv-loop μ-loop
+enum-told-2 : tie.Need-enum-told-2 Inv-loop μ-loop
 enum-told-2 c = search needs
 
-returns-2 : tie.Need-returns-2 Inv-loop2 μ-loop2 Inv-loop μ-loop
+returns-2 : tie.Need-returns-2 Inv-loop μ-loop
 returns-2 c =
     let a = c .before .before .before .before .before .before .args in
     sym (by-matrix (c .before) ∙ short-fails (countT (a .words .now)) (a .matrix .now) (c .if1 .taken))
 
--- a byte that was tested
-byte-by : (c : tie.After-byte-fits Inv-loop2 μ-loop2 Inv-loop μ-loop)
-    → let a = c .before .before .before .before .before .before .before .before .before .before .before .before .before .args in
-    byteAt (countT (a .words .now)) (a .matrix .now) (c .before .before .before .loop2 .at) ≡ c .byte-fits .result
-byte-by c =
-    let a = c .before .before .before .before .before .before .before .before .before .before .before .before .before .args in
-    let l = c .before .before .before .loop2 in
-    byte-here (countT (a .words .now)) (a .matrix .now) (l .at) (c .before .before .before .before .before .loop .a) (l .b) (l .inv .1) (c .before .before .loop2-test .taken)
-    ∙ sym (c .byte-fits .ensures)
+shared-slice-read-t : tie.Need-shared-slice-read-t Inv-loop μ-loop
+shared-slice-read-t c = omega (arith, head (c .before .before))
 
-shared-slice-read-t : tie.Need-shared-slice-read-t Inv-loop2 μ-loop2 Inv-loop μ-loop
-shared-slice-read-t c =
-    let a = c .before .before .before .before .before .before .before .args in
-    omega (arith, headed (a .words .now) (ap isDone (sym (c .before .before .before .before .check-symbols .ensures) ∙ c .before .before .enum-told2 .given .1)))
+cast-t : tie.Need-cast-t Inv-loop μ-loop
+cast-t c = omega (arith, head (c .before .before))
 
-loop-holds : tie.Need-loop-holds Inv-loop2 μ-loop2 Inv-loop μ-loop
-loop-holds c = (omega arith, omega arith, λ k h. absurd (omega arith))
+loop-holds : tie.Need-loop-holds Inv-loop μ-loop
+loop-holds c = (omega arith, λ v h. absurd (omega arith))
 
-loop2-holds : tie.Need-loop2-holds Inv-loop2 μ-loop2 Inv-loop μ-loop
-loop2-holds c = let l = c .before .loop in (omega arith, omega arith, l .inv .2)
+row-fits-requires : tie.Need-row-fits-requires Inv-loop μ-loop
+row-fits-requires c κs = (c .loop-test .taken, head (c .before .before .before .before) .1, c .before .before .before .if1 .left)
 
-shared-slice-read-byte-fits : tie.Need-shared-slice-read-byte-fits Inv-loop2 μ-loop2 Inv-loop μ-loop
-shared-slice-read-byte-fits c = omega arith
-
-byte-fits-requires : tie.Need-byte-fits-requires Inv-loop2 μ-loop2 Inv-loop μ-loop
-byte-fits-requires c κs = tt
-
-returns-3 : tie.Need-returns-3 Inv-loop2 μ-loop2 Inv-loop μ-loop
+returns-3 : tie.Need-returns-3 Inv-loop μ-loop
 returns-3 c =
-    let a = c .before .before .before .before .before .before .before .before .before .before .before .before .before .before .args in
-    let unfit = byte-fails (countT (a .words .now)) (a .matrix .now) (c .before .before .before .before .loop2 .at) (omega arith)
-    (byte-by (c .before) ∙ not-true (c .before .byte-fits .result) (c .if2 .taken)) in
-    sym (by-matrix (c .before .before .before .before .before .before .before .before .before) ∙ unfit)
+    let a = c .before .before .before .before .before .before .before .before .before .before .before .args in
+    let from = 64 * c .before .before .before .loop .a in
+    let r = c .before .row-fits in
+    let room = head (c .before .before .before .before .before .before) .1 in
+    sym (by-matrix (c .before .before .before .before .before .before)
+    ∙ part-fails (countT (a .words .now)) (a .matrix .now) from (from + 64) (r .result) (omega arith) (r .ensures) (not-true (r .result) (c .if2 .taken)))
 
-add-at : tie.Need-add-at Inv-loop2 μ-loop2 Inv-loop μ-loop
-add-at c = omega arith
+add-a : tie.Need-add-a Inv-loop μ-loop
+add-a c = let t = head (c .before .before .before .before .before .before) .1 in omega arith
 
-add-b : tie.Need-add-b Inv-loop2 μ-loop2 Inv-loop μ-loop
-add-b c = omega arith
-
-loop2-less : tie.Need-loop2-less Inv-loop2 μ-loop2 Inv-loop μ-loop
-loop2-less c = omega arith
-
-loop2-again : tie.Need-loop2-again Inv-loop2 μ-loop2 Inv-loop μ-loop
-loop2-again c =
-    (omega arith, omega arith, below-more _ _ (c .before .before .before .before .loop2 .inv .2) (byte-by (c .before) ∙ not-false (c .before .byte-fits .result) (c .if2 .left)))
-
-add-a : tie.Need-add-a Inv-loop2 μ-loop2 Inv-loop μ-loop
-add-a c = omega arith
-
-loop-less : tie.Need-loop-less Inv-loop2 μ-loop2 Inv-loop μ-loop
+loop-less : tie.Need-loop-less Inv-loop μ-loop
 loop-less c = omega arith
 
-loop-again : tie.Need-loop-again Inv-loop2 μ-loop2 Inv-loop μ-loop
-loop-again c = (omega arith, omega arith, c .before .loop2 .inv .2)
+loop-again : tie.Need-loop-again Inv-loop μ-loop
+loop-again c =
+    let a = c .before .before .before .before .before .before .before .before .before .before .before .args in
+    let l = c .before .before .before .loop in
+    let r = c .before .row-fits in
+    (omega arith, rows-more (countT (a .words .now)) (a .matrix .now) (l .a) (r .result) (l .inv .1) (r .ensures) (not-false (r .result) (c .if2 .left)))
 
-returns-4 : tie.Need-returns-4 Inv-loop2 μ-loop2 Inv-loop μ-loop
+mul-all-zero : tie.Need-mul-all-zero Inv-loop μ-loop
+mul-all-zero c = let t = head (c .before .before .before .before) .1 in omega arith
+
+all-zero-requires : tie.Need-all-zero-requires Inv-loop μ-loop
+all-zero-requires c κs = let t = head (c .before .before .before .before) .1 in (omega arith, c .before .before .before .if1 .left)
+
+returns-4 : tie.Need-returns-4 Inv-loop μ-loop
 returns-4 c =
-    let a = c .before .before .before .before .before .before .before .before .before .args in
-    let l = c .before .loop in
-    let fit = bytes-fit (countT (a .words .now)) (a .matrix .now) (c .before .before .before .if1 .left) (λ k h. l .inv .2 k (omega arith)) in
-    sym (by-matrix (c .before .before .before .before) ∙ fit)
+    let a = c .before .before .before .before .before .before .before .before .before .before .args in
+    let l = c .before .before .loop in
+    let r = c .all-zero in
+    whole-told (countT (a .words .now)) (a .matrix .now) (l .a) (r .result) (c .before .before .before .before .if1 .left) (c .before .loop-test .left) (l .inv .1) (r .ensures)
+    ∙ sym (by-matrix (c .before .before .before .before .before))
 
 pub grammar-in-shape-spec : {M : Type 1} → statement M
 grammar-in-shape-spec =
     tie.close
     (tie.spec
-    Inv-loop2
-    μ-loop2
     Inv-loop
     μ-loop
     check-symbols-requires
@@ -129,16 +114,13 @@ grammar-in-shape-spec =
     enum-told-2
     returns-2
     shared-slice-read-t
+    cast-t
     loop-holds
-    loop2-holds
-    shared-slice-read-byte-fits
-    byte-fits-requires
+    row-fits-requires
     returns-3
-    add-at
-    add-b
-    loop2-less
-    loop2-again
     add-a
     loop-less
     loop-again
+    mul-all-zero
+    all-zero-requires
     returns-4)
