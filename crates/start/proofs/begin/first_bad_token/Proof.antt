@@ -1,10 +1,11 @@
--- `first_bad_token` has passed only tokens within 1..t.
+-- `first_bad_token` answers how many there are where none is bad; else its search has passed only tokens within 1..t.
 use Prim.Native.Nat.{_-_}
 use native.Mathlib.Omega.{arith}
 use lib.ListN.{length}
 use Rattle.start.specs.Start.{badTokenAt}
 use Rattle.start.specs.StartChecks.{Clear, clear-more, stopped, passed}
 use borrow.Author.Needs.{needs}
+use borrow.Author.Tests.{not-true}
 use Rattle.start.proofs.begin.first_bad_token.Statement.{statement}
 use Rattle.start.proofs.begin.first_bad_token.Tie as tie
 
@@ -13,6 +14,15 @@ Inv-loop tokens t i₀ i = Clear (badTokenAt t tokens) i
 
 abbrev μ-loop : tie.MeasureT-loop
 μ-loop tokens t i₀ i = length tokens - i
+
+some-bad-token-requires : tie.Need-some-bad-token-requires Inv-loop μ-loop
+some-bad-token-requires c κs = tt
+
+returns : tie.Need-returns Inv-loop μ-loop
+returns c =
+    let a = c .before .before .before .args in
+    let n = length (a .tokens .now) in
+    passed (badTokenAt (a .t) (a .tokens .now)) n n (c .before .some-bad-token .ensures .0 (not-true (c .before .some-bad-token .result) (c .if1 .taken))) (omega arith)
 
 loop-holds : tie.Need-loop-holds Inv-loop μ-loop
 loop-holds c = λ k h. absurd (omega arith)
@@ -23,11 +33,11 @@ mul-token c = search needs
 shared-slice-read-token : tie.Need-shared-slice-read-token Inv-loop μ-loop
 shared-slice-read-token c = c .before .loop-test .taken
 
-returns : tie.Need-returns Inv-loop μ-loop
-returns c =
-    let a = c .before .before .before .before .args in
+returns-2 : tie.Need-returns-2 Inv-loop μ-loop
+returns-2 c =
+    let a = c .before .before .before .before .before .before .before .args in
     let l = c .before .before .before .loop in
-    stopped (badTokenAt (a .t) (a .tokens .now)) (length (a .tokens .now)) (l .i) (l .inv) (c .before .before .loop-test .taken) (c .if1 .taken)
+    stopped (badTokenAt (a .t) (a .tokens .now)) (length (a .tokens .now)) (l .i) (l .inv) (c .before .before .loop-test .taken) (c .if2 .taken)
 
 add-i : tie.Need-add-i Inv-loop μ-loop
 add-i c = omega arith
@@ -37,13 +47,13 @@ loop-less c = omega arith
 
 loop-again : tie.Need-loop-again Inv-loop μ-loop
 loop-again c =
-    let a = c .before .before .before .before .args in
+    let a = c .before .before .before .before .before .before .before .args in
     let l = c .before .before .before .loop in
-    clear-more (badTokenAt (a .t) (a .tokens .now)) (l .i) (l .inv) (c .if1 .left)
+    clear-more (badTokenAt (a .t) (a .tokens .now)) (l .i) (l .inv) (c .if2 .left)
 
-returns-2 : tie.Need-returns-2 Inv-loop μ-loop
-returns-2 c =
-    let a = c .before .before .args in
+returns-3 : tie.Need-returns-3 Inv-loop μ-loop
+returns-3 c =
+    let a = c .before .before .before .before .before .args in
     let l = c .before .loop in
     passed (badTokenAt (a .t) (a .tokens .now)) (length (a .tokens .now)) (l .i) (l .inv) (c .loop-test .left)
 
@@ -53,11 +63,13 @@ first-bad-token-spec =
     (tie.spec
     Inv-loop
     μ-loop
+    some-bad-token-requires
+    returns
     loop-holds
     mul-token
     shared-slice-read-token
-    returns
+    returns-2
     add-i
     loop-less
     loop-again
-    returns-2)
+    returns-3)
