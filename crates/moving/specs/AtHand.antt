@@ -1,4 +1,5 @@
--- What a run has at hand of its chunk: the words of the chunk's row of the table and the counts, by value beside the area that holds them.
+-- What a run has at hand of its chunk, by value beside the area: the words of the chunk's row of the table, the counts and where the slots
+-- start; and that an area holds them.
 -- docs/AREA.md, "The chunk table".
 -- Rests on MoveWords.
 --
@@ -7,7 +8,7 @@ use mathlib.Core.Path.{_≡_}
 use mathlib.Core.List.{List}
 use Prim.Native.Nat.{ℕ}
 use lib.ListN.{getD}
-use Rattle.layout.specs.Layout.{rowWord, movesIn}
+use Rattle.layout.specs.Layout.{rowWord, movesIn, slotsAt}
 use Rattle.moving.specs.declared.Hand.{Hand}
 use Rattle.moving.specs.MoveWords.{fromOf, headOf, endOf, marksOf}
 
@@ -20,3 +21,4 @@ pub record AtHand (area : List ℕ) (c : ℕ) (hand : Hand) : Type 0 where
   pub marks : hand .marks ≡ marksOf area c
   pub reductions : hand .reductions ≡ getD area 4 0
   pub moves : hand .moves ≡ movesIn area
+  pub base : hand .base ≡ slotsAt area

@@ -1,48 +1,43 @@
--- What is at hand after each store of a move: the hand with that word changed is what the area holds then.
+-- The hand through a move: where an area holds what is at hand, the words that the move leaves hold the hand after it.
 -- Rests on Ready, AtHand and MoveWords.
 --
--- Main statements: hand-rests; hand-counted, still-few, hand-ticks; over-roomy; hand-pushed, hand-stuck, hand-accepted, hand-reduced.
-use mathlib.Core.Path.{_≡_, refl, sym, ap, subst, _∙_}
-use mathlib.Core.Bool.{Bool}
+-- Main statements: hand-rests; hand-counted, hand-ticks; front-over; hand-pushed, hand-stuck, hand-accepted, hand-reduced.
+use mathlib.Core.Path.{_≡_, sym, ap, _∙_}
 use mathlib.Core.List.{List}
 use Prim.Native.Nat.{ℕ, _+_, _*_, _-_, _/_, _%_, _<_, _≤_}
 use native.Mathlib.Omega.{arith}
 use lib.Dec.{eqb}
 use lib.ListN.{length, getD, set, length-set}
 use lib.Seq.{getD-set-other, getD-set-same}
-use Rattle.layout.specs.Layout.{tableAt, rowWord, slotWord, movesIn, madeAtWord}
+use Rattle.layout.specs.Layout.{tableAt, slotWord, movesIn, slotsAt, madeAtWord}
 use Rattle.moving.specs.declared.Hand.{Hand}
 use Rattle.moving.specs.AtHand.{AtHand}
 use Rattle.moving.specs.MoveWords.{headOf, slotAt, tickWords, putWords, endedWords, clearedWords, overWords, notedWords, replacedWords, madeWords}
-use Rattle.moving.specs.MoveWords.{Ticks, Pushable, Stickable, Acceptable, Roomy, Reducible}
+use Rattle.moving.specs.MoveWords.{Ticks, Pushable, Stickable, Acceptable, Reducible}
 use Rattle.moving.specs.Moved.{restsBy, restsIn}
-use Rattle.moving.specs.Ready.{cleared-length, cleared-before, over-before, over-length, replaced-before, replaced-roomy}
+use Rattle.moving.specs.Ready.{cleared-length, cleared-before, over-before, over-length, replaced-before}
 use Rattle.moving.specs.Zeroing.{ended-zeroed}
 
 pub hand-rests : {area : List ℕ} {c : ℕ} {h : Hand} → AtHand area c h → restsBy (eqb (h .status) 1) (h .end) (h .head) ≡ restsIn area c
 hand-rests a = rw (a .status, a .end, a .head)
 
--- the move can be counted
+-- a move more can be counted
 pub hand-counted : {area : List ℕ} {c : ℕ} {h : Hand} → AtHand area c h → 5 ≤ length area → getD area 2 0 < 65536 → getD area 3 0 < 65535 → Ticks area (h .moves)
 hand-counted a long low few = record { long = long; low = low; few = few; count = a .moves }
-
--- .. where no move was counted since there were few enough
-pub still-few : {area area′ : List ℕ} {c : ℕ} {h r : Hand} → AtHand area c h → AtHand area′ c r → r .moves ≡ h .moves
-    → getD area 2 0 < 65536 → getD area 3 0 < 65535 → getD area′ 3 0 < 65535
-still-few a b e low few = omega (arith, a .moves, b .moves, e, low, few)
 
 -- ---- one store
 
 -- a word that is not at hand
-hand-same : {area area′ : List ℕ} {c : ℕ} {h : Hand} → AtHand area c h → ((j : ℕ) → 1 < j → j < tableAt c 5 → getD area′ j 0 ≡ getD area j 0) → AtHand area′ c h
+hand-same : {area area′ : List ℕ} {c : ℕ} {h : Hand} → AtHand area c h → ((j : ℕ) → j < tableAt c 5 → getD area′ j 0 ≡ getD area j 0) → AtHand area′ c h
 hand-same {c = c} a e = record {
-  status = a .status ∙ sym (e (tableAt c 0) (omega arith) (omega arith));
-  from = a .from ∙ sym (e (tableAt c 1) (omega arith) (omega arith));
-  head = a .head ∙ sym (e (tableAt c 2) (omega arith) (omega arith));
-  end = a .end ∙ sym (e (tableAt c 3) (omega arith) (omega arith));
-  marks = a .marks ∙ sym (e (tableAt c 4) (omega arith) (omega arith));
-  reductions = a .reductions ∙ sym (e 4 (omega arith) (omega arith));
-  moves = rw (e 2 (omega arith) (omega arith), e 3 (omega arith) (omega arith)) (a .moves);
+  status = a .status ∙ sym (e (tableAt c 0) (omega arith));
+  from = a .from ∙ sym (e (tableAt c 1) (omega arith));
+  head = a .head ∙ sym (e (tableAt c 2) (omega arith));
+  end = a .end ∙ sym (e (tableAt c 3) (omega arith));
+  marks = a .marks ∙ sym (e (tableAt c 4) (omega arith));
+  reductions = a .reductions ∙ sym (e 4 (omega arith));
+  moves = rw (e 2 (omega arith), e 3 (omega arith)) (a .moves);
+  base = rw (e 1 (omega arith)) (a .base);
 }
 
 module _ {area : List ℕ} {c : ℕ} {h : Hand} (a : AtHand area c h) (v : ℕ) where
@@ -52,11 +47,14 @@ module _ {area : List ℕ} {c : ℕ} {h : Hand} (a : AtHand area c h) (v : ℕ) 
   counts : (i : ℕ) → 3 < i → h .moves ≡ movesIn (set area i v)
   counts i l = rw (getD-set-other area i 2 v 0 (omega arith), getD-set-other area i 3 v 0 (omega arith)) (a .moves)
 
+  based : (i : ℕ) → 3 < i → h .base ≡ slotsAt (set area i v)
+  based i l = rw (getD-set-other area i 1 v 0 (omega arith)) (a .base)
+
   hand-beyond : (i : ℕ) → tableAt c 5 ≤ i → AtHand (set area i v) c h
-  hand-beyond i l = hand-same a (λ j p q. getD-set-other area i j v 0 (omega arith))
+  hand-beyond i l = hand-same a (λ j q. getD-set-other area i j v 0 (omega arith))
 
   hand-status : tableAt c 0 < length area → AtHand (set area (tableAt c 0) v) c
-      (record { status = v; from = h .from; head = h .head; end = h .end; marks = h .marks; reductions = h .reductions; moves = h .moves })
+      (record { status = v; from = h .from; head = h .head; end = h .end; marks = h .marks; reductions = h .reductions; moves = h .moves; base = h .base })
   hand-status l = record {
     status = sym (getD-set-same area (tableAt c 0) v 0 l);
     from = kept (tableAt c 0) (tableAt c 1) (omega arith) (a .from);
@@ -65,10 +63,11 @@ module _ {area : List ℕ} {c : ℕ} {h : Hand} (a : AtHand area c h) (v : ℕ) 
     marks = kept (tableAt c 0) (tableAt c 4) (omega arith) (a .marks);
     reductions = kept (tableAt c 0) 4 (omega arith) (a .reductions);
     moves = counts (tableAt c 0) (omega arith);
+    base = based (tableAt c 0) (omega arith);
   }
 
   hand-head : tableAt c 2 < length area → AtHand (set area (tableAt c 2) v) c
-      (record { status = h .status; from = h .from; head = v; end = h .end; marks = h .marks; reductions = h .reductions; moves = h .moves })
+      (record { status = h .status; from = h .from; head = v; end = h .end; marks = h .marks; reductions = h .reductions; moves = h .moves; base = h .base })
   hand-head l = record {
     status = kept (tableAt c 2) (tableAt c 0) (omega arith) (a .status);
     from = kept (tableAt c 2) (tableAt c 1) (omega arith) (a .from);
@@ -77,10 +76,11 @@ module _ {area : List ℕ} {c : ℕ} {h : Hand} (a : AtHand area c h) (v : ℕ) 
     marks = kept (tableAt c 2) (tableAt c 4) (omega arith) (a .marks);
     reductions = kept (tableAt c 2) 4 (omega arith) (a .reductions);
     moves = counts (tableAt c 2) (omega arith);
+    base = based (tableAt c 2) (omega arith);
   }
 
   hand-end : tableAt c 3 < length area → AtHand (set area (tableAt c 3) v) c
-      (record { status = h .status; from = h .from; head = h .head; end = v; marks = h .marks; reductions = h .reductions; moves = h .moves })
+      (record { status = h .status; from = h .from; head = h .head; end = v; marks = h .marks; reductions = h .reductions; moves = h .moves; base = h .base })
   hand-end l = record {
     status = kept (tableAt c 3) (tableAt c 0) (omega arith) (a .status);
     from = kept (tableAt c 3) (tableAt c 1) (omega arith) (a .from);
@@ -89,10 +89,11 @@ module _ {area : List ℕ} {c : ℕ} {h : Hand} (a : AtHand area c h) (v : ℕ) 
     marks = kept (tableAt c 3) (tableAt c 4) (omega arith) (a .marks);
     reductions = kept (tableAt c 3) 4 (omega arith) (a .reductions);
     moves = counts (tableAt c 3) (omega arith);
+    base = based (tableAt c 3) (omega arith);
   }
 
   hand-marks : tableAt c 4 < length area → AtHand (set area (tableAt c 4) v) c
-      (record { status = h .status; from = h .from; head = h .head; end = h .end; marks = v; reductions = h .reductions; moves = h .moves })
+      (record { status = h .status; from = h .from; head = h .head; end = h .end; marks = v; reductions = h .reductions; moves = h .moves; base = h .base })
   hand-marks l = record {
     status = kept (tableAt c 4) (tableAt c 0) (omega arith) (a .status);
     from = kept (tableAt c 4) (tableAt c 1) (omega arith) (a .from);
@@ -101,10 +102,11 @@ module _ {area : List ℕ} {c : ℕ} {h : Hand} (a : AtHand area c h) (v : ℕ) 
     marks = sym (getD-set-same area (tableAt c 4) v 0 l);
     reductions = kept (tableAt c 4) 4 (omega arith) (a .reductions);
     moves = counts (tableAt c 4) (omega arith);
+    base = based (tableAt c 4) (omega arith);
   }
 
   hand-reductions : 4 < length area → AtHand (set area 4 v) c
-      (record { status = h .status; from = h .from; head = h .head; end = h .end; marks = h .marks; reductions = v; moves = h .moves })
+      (record { status = h .status; from = h .from; head = h .head; end = h .end; marks = h .marks; reductions = v; moves = h .moves; base = h .base })
   hand-reductions l = record {
     status = kept 4 (tableAt c 0) (omega arith) (a .status);
     from = kept 4 (tableAt c 1) (omega arith) (a .from);
@@ -113,11 +115,13 @@ module _ {area : List ℕ} {c : ℕ} {h : Hand} (a : AtHand area c h) (v : ℕ) 
     marks = kept 4 (tableAt c 4) (omega arith) (a .marks);
     reductions = sym (getD-set-same area 4 v 0 l);
     moves = counts 4 (omega arith);
+    base = based 4 (omega arith);
   }
 
 -- the move counted
 pub hand-ticks : {area : List ℕ} {c : ℕ} {h : Hand} → AtHand area c h → 5 ≤ length area
-    → AtHand (tickWords area) c (record { status = h .status; from = h .from; head = h .head; end = h .end; marks = h .marks; reductions = h .reductions; moves = h .moves + 1 })
+    → AtHand (tickWords area) c
+    (record { status = h .status; from = h .from; head = h .head; end = h .end; marks = h .marks; reductions = h .reductions; moves = h .moves + 1; base = h .base })
 unfolding tickWords
 hand-ticks {area} {c} {h} a l =
     let low : ℕ = (movesIn area + 1) % 65536 in
@@ -134,6 +138,7 @@ hand-ticks {area} {c} {h} a l =
       marks = a .marks ∙ word (tableAt c 4) (omega arith);
       reductions = a .reductions ∙ word 4 (omega arith);
       moves = rw (second, third, a .moves) (omega arith);
+      base = rw (getD-set-other (set area 2 low) 3 1 high 0 (omega arith), getD-set-other area 2 1 low 0 (omega arith)) (a .base);
     }
 
 -- ---- a move, not yet counted
@@ -148,7 +153,8 @@ module _ (area : List ℕ) (c : ℕ) (h : Hand) where
     put = set (set (set area (slotAt area (h .head) + 1) mark) (tableAt c 2) headed) (tableAt c 4) (h .marks + mark)
 
     pub hand-pushed : (put ≡ putWords area c mark)
-        × AtHand put c (record { status = h .status; from = h .from; head = headed; end = h .end; marks = h .marks + mark; reductions = h .reductions; moves = h .moves })
+        × AtHand put c
+        (record { status = h .status; from = h .from; head = headed; end = h .end; marks = h .marks + mark; reductions = h .reductions; moves = h .moves; base = h .base })
     unfolding putWords
     hand-pushed = (
       rw (p .1 .head, p .1 .marks),
@@ -160,7 +166,7 @@ module _ (area : List ℕ) (c : ℕ) (h : Hand) where
 
   -- a chunk stuck
   pub hand-stuck : (status : ℕ) → Stickable area c × AtHand area c h → AtHand (set area (tableAt c 0) status) c
-      (record { status = status; from = h .from; head = h .head; end = h .end; marks = h .marks; reductions = h .reductions; moves = h .moves })
+      (record { status = status; from = h .from; head = h .head; end = h .end; marks = h .marks; reductions = h .reductions; moves = h .moves; base = h .base })
   hand-stuck status p = hand-status (p .1) status (omega (arith, p .0 .chunk, p .0 .room))
 
   -- the # of the end read
@@ -173,11 +179,11 @@ module _ (area : List ℕ) (c : ℕ) (h : Hand) where
 
     pub hand-accepted : (set cleared (tableAt c 3) (h .end - 1) ≡ endedWords area c)
         × AtHand (set cleared (tableAt c 3) (h .end - 1)) c
-        (record { status = h .status; from = h .from; head = h .head; end = h .end - 1; marks = h .marks; reductions = h .reductions; moves = h .moves })
+        (record { status = h .status; from = h .from; head = h .head; end = h .end - 1; marks = h .marks; reductions = h .reductions; moves = h .moves; base = h .base })
     hand-accepted = (
       rw (p .1 .end) (ended-zeroed area c (p .0)),
       hand-end {area = cleared}
-          (hand-same (p .1) (λ j q l. cleared-before area (slotAt area (h .end - 1)) 4 j (omega (arith, p .0 .chunk)) (omega (arith, p .0 .room, p .1 .end))))
+          (hand-same (p .1) (λ j l. cleared-before area (slotAt area (h .end - 1)) 4 j (omega (arith, p .0 .chunk)) (omega (arith, p .0 .room, p .1 .end))))
           (h .end - 1) (omega (arith, long-cleared, p .0 .chunk, p .0 .room)),
     )
 
@@ -197,20 +203,17 @@ module _ (area : List ℕ) (c : ℕ) (h : Hand) where
     long-over = over-length area from (h .head) symbol (omega (arith, p .0 .top, p .0 .room .room, p .0 .some, p .1 .head))
 
     abbrev afterOver : Hand
-    afterOver = record { status = h .status; from = h .from; head = h .head; end = h .end; marks = h .marks - 1; reductions = h .reductions; moves = h .moves }
+    afterOver = record { status = h .status; from = h .from; head = h .head; end = h .end; marks = h .marks - 1; reductions = h .reductions; moves = h .moves; base = h .base }
 
     hand-over : AtHand stored c afterOver
     hand-over =
         hand-marks {area = over}
-        (hand-same (p .1) (λ j q l. over-before area from (h .head) symbol j (omega (arith, p .0 .chunk)) (omega (arith, p .0 .some, p .1 .head))
+        (hand-same (p .1) (λ j l. over-before area from (h .head) symbol j (omega (arith, p .0 .chunk)) (omega (arith, p .0 .some, p .1 .head))
         (omega (arith, p .0 .top, p .0 .room .room, p .0 .some, p .1 .head))))
         (h .marks - 1) (omega (arith, long-over, p .0 .chunk, p .0 .room .room))
 
-    -- the reduction can be noted
-    pub over-roomy : Roomy stored × (h .reductions ≡ getD stored 4 0)
-    over-roomy = (rw over-stored (replaced-roomy area c from symbol (p .0)), hand-over .reductions)
-
-    front-over : (j : ℕ) → j < 5 → getD stored j 0 ≡ getD area j 0
+    -- the words of the front are as before
+    pub front-over : (j : ℕ) → j < 5 → getD stored j 0 ≡ getD area j 0
     front-over j l = rw over-stored (replaced-before area c from symbol (p .0) j l)
 
     module _ (rule : ℕ) where
@@ -218,7 +221,7 @@ module _ (area : List ℕ) (c : ℕ) (h : Hand) where
       made = notedWords stored rule (from - 1) (h .head - 1)
 
       hand-noted : AtHand made c
-          (record { status = h .status; from = h .from; head = h .head; end = h .end; marks = h .marks - 1; reductions = h .reductions + 1; moves = h .moves })
+          (record { status = h .status; from = h .from; head = h .head; end = h .end; marks = h .marks - 1; reductions = h .reductions + 1; moves = h .moves; base = h .base })
       unfolding notedWords
       hand-noted =
           let at : ℕ = madeAtWord stored + 3 * getD stored 4 0 in
@@ -230,7 +233,7 @@ module _ (area : List ℕ) (c : ℕ) (h : Hand) where
 
       pub hand-reduced : (made ≡ madeWords area c from symbol rule)
           × AtHand made c
-          (record { status = h .status; from = h .from; head = h .head; end = h .end; marks = h .marks - 1; reductions = h .reductions + 1; moves = h .moves })
+          (record { status = h .status; from = h .from; head = h .head; end = h .end; marks = h .marks - 1; reductions = h .reductions + 1; moves = h .moves; base = h .base })
       hand-reduced = (
         rw (p .1 .head) (ap (λ (l : List ℕ). notedWords l rule (from - 1) (headOf area c - 1)) (rw (p .1 .head) at over-stored)),
         hand-noted,

@@ -27,7 +27,10 @@ pub mod Readings
 pub mod Ready
 pub mod ReduceLaw
 pub mod RunMoves
+pub mod SameSlots
 pub mod Searches
+pub mod Settled
+pub mod SettledReadings
 pub mod ShapeKept
 pub mod StackWords
 pub mod StickLaw

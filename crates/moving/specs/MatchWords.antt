@@ -48,8 +48,9 @@ abbrev pub matchedOf : Option ℕ → Matched
 matchedOf none = NoRule
 matchedOf (some r) = Rule r
 
--- the contents are there, and every body starts within the run
+-- the contents are there, of one rule at least, and every body starts within the run
 pub record Readable (words : List ℕ) : Type 0 where
+  pub some-rule : 0 < countR words
   pub long : 4 + countR words ≤ length words
   pub within : (r : ℕ) → r < countR words → entry words r ≤ length words
 
@@ -91,10 +92,6 @@ module _ {area : List ℕ} {e : ℕ} where
       ∙ ap (λ (v : List ℕ). slotWord area s 0 ∷ v) (sym (enough (e - (s + slotWord area s 2)) w (omega arith)))
 
   -- a block is passed
-  pub whole-size : {s : ℕ} → Whole area e s → s < e → 0 < slotWord area s 2
-  whole-size (no-block q) l = absurd (omega arith)
-  whole-size (a-block h w) l = h
-
   pub whole-rest : {s : ℕ} → Whole area e s → s < e → Whole area e (s + slotWord area s 2)
   whole-rest (no-block q) l = absurd (omega arith)
   whole-rest (a-block h w) l = w

@@ -3,7 +3,7 @@
 -- Document 01, "Moves of a chunk", 5: "If a rule has this right side, replace it by the left side of the least such rule".
 -- Rests on MatchWords, ReadWords and StackWords, on language's Matching and words' Laid and Rules.
 --
--- Main statements: readable, whole-stack, handle-words, match-handle.
+-- Main statements: readable, whole-stack, handle-words, handle-count, match-handle.
 use mathlib.Core.Path.{_≡_, refl, sym, ap, ap₂, _∙_}
 use mathlib.Core.Bool.{true, false≢true}
 use mathlib.Core.List.{List, [], _∷_, _++_, map, map-append}
@@ -11,7 +11,7 @@ use mathlib.Core.Option.{Option, some}
 use Prim.Native.Nat.{ℕ, _+_, _*_, _<_}
 use native.Mathlib.Omega.{arith}
 use lib.Dec.{eqb}
-use lib.ListN.{length}
+use lib.ListN.{length, length-map}
 use Rattle.laws.specs.Tests.{and-both, both-and, eqb-true, eq-eqb, below-upTo}
 use Rattle.laws.specs.Least.{Finds, nowhere, least, least-once, first-finds}
 use Rattle.language.specs.Symbols.{Symbol, nonterminal, wordOf, symbolOf}
@@ -23,6 +23,7 @@ use Rattle.language.specs.Trees.{Span}
 use Rattle.words.specs.Laid
 use Rattle.words.specs.Rules.{right-of, is-terminal, is-nonterminal, words-back}
 use Rattle.machine.specs.Entries.{Entry, terminalOn, nonterminalOn, symbol, unmarked, stackSymbols}
+use Rattle.results.specs.Bounded.{length-of-stack}
 use Rattle.layout.specs.Layout.{size, stackSize, slotWord}
 use Rattle.moving.specs.MoveWords.{slotAt, Stands}
 use Rattle.moving.specs.ReadWords.{Told, Holds}
@@ -31,7 +32,7 @@ use Rattle.moving.specs.MatchWords.{handleWords, sameWords, hasRight, ma
 
 -- words that pass 1 and 2
 pub readable : {words : List ℕ} → Laid.Laid words → Readable words
-readable {words} l = record { long = l .present; within = λ r h. omega (arith, l .least r h, Laid.within words l r h) }
+readable {words} l = record { some-rule = l .headed .some-rule; long = l .present; within = λ r h. omega (arith, l .least r h, Laid.within words l r h) }
 
 -- ---- up the blocks of a stack
 
@@ -91,6 +92,11 @@ module _ (area : List ℕ) (s : ℕ) where
         map-append symbol (stackSymbols stack) (unmarked x ∷ []),
         map-append wordOf (map symbol (stackSymbols stack)) (symbol (unmarked x) ∷ []),
       )
+
+  -- as many as it has symbols
+  pub handle-count : (e : ℕ) (stack : List (Entry Span)) → Stands area (slotAt area s) (slotAt area e) stack → length (handleWords area s e) ≡ length stack
+  handle-count e stack h =
+      ap length (handle-words e stack h) ∙ length-map (map symbol (stackSymbols stack)) wordOf ∙ length-map (stackSymbols stack) symbol ∙ length-of-stack stack
 
 -- ---- words and symbols
 

@@ -4,7 +4,7 @@
 -- Document 01, "Moves of a chunk"; docs/AREA.md gives the places.
 -- Rests on layout's Layout.
 --
--- Main definitions: tickWords, pushWords, stickWords, acceptWords, joinWords, clearedWords, reduceWords; putWords, endedWords, madeWords (a
+-- Main definitions: tickWords, pushWords, stickWords, acceptWords, joinWords, clearedWords, entryWords, reduceWords; putWords, endedWords, madeWords (a
 -- move not counted); Stands (a stack's words stand there); Ticks, Pushable, Stickable, Acceptable, Joinable, Laid, Roomy, Reducible (what each asks).
 use mathlib.Core.Path.{_≡_}
 use mathlib.Core.List.{List, _++_}
@@ -167,11 +167,14 @@ abbrev pub overWords : List ℕ → ℕ → ℕ → ℕ → List ℕ
 overWords area from head symbol =
     laidWords (clearedWords area (slotAt area from) (slotAt area head - slotAt area from)) (slotAt area from) symbol (head - from)
 
--- a reduction more, after those made before it: rule, first place, place after the last
+-- a reduction after the `made` before it: rule, first place, place after the last
+abbrev pub entryWords : List ℕ → ℕ → ℕ → ℕ → ℕ → List ℕ
+entryWords area made rule first after =
+    set (set (set area (madeAtWord area + 3 * made) rule) (madeAtWord area + 3 * made + 1) first) (madeAtWord area + 3 * made + 2) after
+
+-- .. and counted
 unfoldable pub notedWords : List ℕ → ℕ → ℕ → ℕ → List ℕ
-notedWords area rule first after =
-    set (set (set (set area (madeAtWord area + 3 * getD area 4 0) rule) (madeAtWord area + 3 * getD area 4 0 + 1) first)
-    (madeAtWord area + 3 * getD area 4 0 + 2) after) 4 (getD area 4 0 + 1)
+notedWords area rule first after = set (entryWords area (getD area 4 0) rule first after) 4 (getD area 4 0 + 1)
 
 -- one reduction more can be noted
 pub record Roomy (area : List ℕ) : Type 0 where

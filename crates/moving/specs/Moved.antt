@@ -6,7 +6,7 @@
 -- Main definitions: Moved (the words that a move leaves), uncounted (before it is counted), CallsFor (the move that leaves them, and can be made); Facing, Compared, Takes,
 -- Taking (what is known on the way to it), HasLeft; liveIn, restsIn.
 -- Main statements: stuck-on-top, put-on-top, put-first, stuck-blank, put-marked, put-equal, ended, accepted, stuck-end,
--- put-unmarked, replaced, stuck-rule; matrix-long, words-readable, has-left.
+-- put-unmarked, handle-there, handle-counts, replaced, stuck-rule; matrix-long, words-readable, has-left.
 use mathlib.Core.Path.{_≡_, refl, sym, ap, subst, _∙_}
 use mathlib.Core.Bool.{Bool, true, false, false≢true, _&&_, _||_}
 use mathlib.Core.List.{List, map}
@@ -39,12 +39,12 @@ use Rattle.moving.specs.declared.Top.the-variants.{Terminal, NoTerminal}
 use Rattle.moving.specs.declared.Matched.the-variants as matched
 use Rattle.moving.specs.MoveWords.{fromOf, headOf, endOf, marksOf, tickWords, putWords, pushWords, stickWords}
 use Rattle.moving.specs.MoveWords.{endedWords, acceptWords, madeWords, reduceWords, Pushable, Stickable, Acceptable, Reducible}
-use Rattle.moving.specs.ReadWords.{topOf, TopIs, NonterminalOnTop, EndAndAxiom, HandleStarts}
+use Rattle.moving.specs.ReadWords.{topOf, TopIs, NonterminalOnTop, EndAndAxiom, HandleStarts, HandleIs}
 use Rattle.moving.specs.MatchWords.{handleWords, matchWords, matchedOf, Readable, Whole}
 use Rattle.moving.specs.Matches.{readable}
 use Rattle.moving.specs.HandleSlots.{SomeHandle, marks-some}
 use Rattle.moving.specs.MoveLaw.{Leaves, rule-1-stuck, rule-1, rule-2, rule-3, rule-4-yields, rule-4-equal, rule-4-last, rule-4-stuck, rule-5, rule-5-stuck, rule-6}
-use Rattle.moving.specs.OneMove.{Held, Movable, stackOf, stack-held, marks-held, top-small, next-small, can-reduce, can-match, starts-held, rule-held}
+use Rattle.moving.specs.OneMove.{Held, Movable, stackOf, stack-held, marks-held, top-small, next-small, can-reduce, can-match, starts-held, count-held, rule-held}
 
 -- ---- a chunk's number, and whether it is at rest, off its row of the table
 
@@ -146,6 +146,9 @@ pub record Facing (words bytes area : List ℕ) (c a b : ℕ) : Type 0 where
 pub record Compared (words bytes area : List ℕ) (c a b x : ℕ) : Type 0 where
   pub facing : Facing words bytes area c a b
   pub byte : getD bytes (64 * a + b) 0 ≡ x
+
+pub compared : {words bytes area : List ℕ} {c a b x : ℕ} → Facing words bytes area c a b → getD bytes (64 * a + b) 0 ≡ x → Compared words bytes area c a b x
+compared f e = record { facing = f; byte = e }
 
 -- "Takes"
 pub record Takes (words bytes area : List ℕ) (c : ℕ) : Type 0 where
@@ -282,6 +285,12 @@ module _ {words bytes area : List ℕ} {c : ℕ} where
 
       pub handle-there : Whole area (headOf area c) at
       handle-there = let m = fact .movable in subst (λ (i : ℕ). Whole area (headOf area c) i) (sym (starts-at m)) (can-match m (the-handle m .above))
+
+      -- and this is how many
+      pub handle-counts : (count : ℕ) → HandleIs area (fromOf area c) (headOf area c) at count → count ≡ length (handleWords area at (headOf area c))
+      handle-counts count k =
+          let m = fact .movable in
+          count-held m (the-handle m .above) at count k ∙ ap (λ (i : ℕ). length (handleWords area i (headOf area c))) (sym (starts-at m))
 
       pub stuck-rule : matched.NoRule ≡ matchedOf (matchWords words (handleWords area at (headOf area c))) → Moved words bytes area c (stickWords area c 18)
       stuck-rule e =

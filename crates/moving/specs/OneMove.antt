@@ -5,7 +5,7 @@
 --
 -- Main definitions: Held, Movable, Joining.
 -- Main statements: held-in-shape; live-held, held-live, runs-held, rests-held, next-held; can-push, can-stick, row-there, can-accept, can-reduce,
--- can-read, can-match; stack-held, marks-held, top-small, next-small, starts-held, rule-held; moves-so, held-stepped, live-stepped;
+-- can-read, can-match; stack-held, marks-held, top-small, next-small, starts-held, count-held, rule-held; moves-so, held-stepped, live-stepped;
 -- can-join, joins-so, joined-words, held-joined.
 use mathlib.Core.Path.{_≡_, sym, ap, subst, _∙_}
 use mathlib.Core.Bool.{true}
@@ -33,7 +33,7 @@ use Rattle.matrix.specs.EndMarkOfShape.{grammar-in-shape}
 use Rattle.shape.specs.InShape.{in-shape-parts, in-shape-holds}
 use Rattle.shape.specs.Safe.{safe-turned}
 use Rattle.moving.specs.MoveWords.{fromOf, headOf, endOf, marksOf, joinWords, Pushable, Stickable, Acceptable, Joinable, Reducible}
-use Rattle.moving.specs.ReadWords.{Holds, HasStack, HandleStarts, liveAfter}
+use Rattle.moving.specs.ReadWords.{Holds, HasStack, HandleStarts, HandleIs, liveAfter}
 use Rattle.moving.specs.MatchWords.{handleWords, matchWords, Whole}
 use Rattle.moving.specs.AroundChunk.{from-word, marks-word, next-symbol}
 use Rattle.moving.specs.PushLaw.{push-ready}
@@ -41,7 +41,7 @@ use Rattle.moving.specs.StickLaw.{stick-ready}
 use Rattle.moving.specs.AcceptLaw.{accept-ready}
 use Rattle.moving.specs.ReduceLaw.{reduce-ready}
 use Rattle.moving.specs.LiveWords.{live-number, number-live, NextIs, next-status}
-use Rattle.moving.specs.ReadLaw.{stack-holds, has-stack, top-ranged, next-ranged, handle-starts, handle-whole, handle-matches}
+use Rattle.moving.specs.ReadLaw.{stack-holds, has-stack, top-ranged, next-ranged, handle-starts, handle-whole, handle-counted, handle-matches}
 use Rattle.moving.specs.JoinLaw.{nextNumber, afterJoin, join-becomes, join-law, join-ready}
 use Rattle.moving.specs.MoveLaw.{Runs, runs-unread, runs-words, rests-words, Leaves, Stepped, move-law}
 
@@ -166,7 +166,7 @@ module _ {words bytes area : List ℕ} {c : ℕ} (m : Movable words bytes area c
       (rw (next-symbol (m .held .tokens) (m .held .state) (m .held .rest) (m .live) (m .runs .next) (m .runs .unread) (runs-unread (m .runs)))
       (λ b. omega (arith, next-ranged (m .held .kept) (m .held .rest) (m .live) (m .runs .next) (m .runs .unread) (runs-unread (m .runs)) b, terminals-small (m .held))))
 
-  -- its handle: where it starts, that it can be matched and reduced, and the rule
+  -- its handle: where it starts, that it can be matched and reduced, how many symbols it has, and the rule
   module _ {handle below : List (Entry Span)} (h : HandleAbove stackOf handle below) where
     pub can-reduce : Reducible area c (fromOf area c + stackSize below)
     can-reduce = on-area (λ a. Reducible a c (fromOf a c + stackSize below))
@@ -180,6 +180,12 @@ module _ {words bytes area : List ℕ} {c : ℕ} (m : Movable words bytes area c
 
     pub can-match : Whole area (headOf area c) (fromOf area c + stackSize below)
     can-match = on-area (λ a. Whole a (headOf a c) (fromOf a c + stackSize below)) (handle-whole (m .held .kept) (m .held .rest) (m .live) few h)
+
+    pub count-held : (start count : ℕ) → HandleIs area (fromOf area c) (headOf area c) start count
+        → count ≡ length (handleWords area (fromOf area c + stackSize below) (headOf area c))
+    count-held =
+        on-area (λ a. (start count : ℕ) → HandleIs a (fromOf a c) (headOf a c) start count → count ≡ length (handleWords a (fromOf a c + stackSize below) (headOf a c)))
+        (handle-counted (m .held .kept) (m .held .rest) (m .live) few h)
 
     pub rule-held : matchWords words (handleWords area (fromOf area c + stackSize below) (headOf area c)) ≡ matching (grammarOf words) (map symbol (stackSymbols handle))
     rule-held =

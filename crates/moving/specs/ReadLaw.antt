@@ -4,15 +4,15 @@
 -- number k".
 -- Rests on AroundChunk, KeptAround, HandleSlots, ReadWords, Readings and Matches, on matrix's WordsOfShape and on machine's TableOf.
 --
--- Main statements: stack-holds, has-stack; top-ranged, next-ranged; handle-starts, handle-holds, handle-whole, handle-matches;
--- relation-byte, left-word, readable-words.
+-- Main statements: stack-holds, has-stack; top-ranged, next-ranged; handle-starts, handle-holds, handle-whole, handle-counted,
+-- handle-matches; relation-byte, left-word, readable-words.
 use mathlib.Core.Path.{_≡_, ap, _∙_}
 use mathlib.Core.Bool.{true}
 use mathlib.Core.List.{List, [], _∷_, _++_, map}
 use mathlib.Core.Option.{some}
 use Prim.Native.Nat.{ℕ, _+_, _*_, _<_, _≤_}
 use native.Mathlib.Omega.{arith}
-use lib.ListN.{getD}
+use lib.ListN.{length, getD, length-append}
 use Rattle.laws.specs.Tests.{lt-ltb}
 use Rattle.laws.specs.Least.{finds-none}
 use Rattle.language.specs.Symbols.{Symbol, wordOf}
@@ -35,11 +35,11 @@ use Rattle.shape.specs.Tiling.{ranged-split}
 use Rattle.matrix.specs.GrammarShape.{ruleA}
 use Rattle.matrix.specs.WordsOfShape.{rule-a-exactly}
 use Rattle.moving.specs.MoveWords.{fromOf, headOf, slotAt}
-use Rattle.moving.specs.ReadWords.{Holds, HasStack, HandleStarts}
+use Rattle.moving.specs.ReadWords.{Holds, HasStack, HandleStarts, HandleIs}
 use Rattle.moving.specs.StackWords.{stacked}
 use Rattle.moving.specs.Readings.{told-ranged, told-upper, handle-below}
 use Rattle.moving.specs.MatchWords.{handleWords, matchWords, Readable, Whole}
-use Rattle.moving.specs.Matches.{readable, whole-stack, match-handle}
+use Rattle.moving.specs.Matches.{readable, whole-stack, handle-count, match-handle}
 use Rattle.moving.specs.AroundChunk.{stack-stands, number-within}
 use Rattle.moving.specs.KeptAround.{stack-ranged, unread-ranged}
 use Rattle.moving.specs.HandleSlots.{handle-splits, upper-stands}
@@ -104,6 +104,19 @@ module _ {t N n : ℕ} {s : State Span} (k : Kept t N n s) (rest : List ℕ) {c 
 
       pub handle-whole : Whole (encode n s ++ rest) (headOf (encode n s ++ rest) c) (fromOf (encode n s ++ rest) c + stackSize below)
       handle-whole = whole-stack (encode n s ++ rest) (fromOf (encode n s ++ rest) c + stackSize below) (headOf (encode n s ++ rest) c) handle (handle-holds .stands)
+
+      -- the symbols counted are those of the handle's words
+      pub handle-counted : (start count : ℕ) → HandleIs (encode n s ++ rest) (fromOf (encode n s ++ rest) c) (headOf (encode n s ++ rest) c) start count
+          → count ≡ length (handleWords (encode n s ++ rest) (fromOf (encode n s ++ rest) c + stackSize below) (headOf (encode n s ++ rest) c))
+      handle-counted start count f =
+          let e : count + length below ≡ length (handle ++ below) =
+          rw (← handle-splits h, ← handle-below h) (f .counted (l .chunk .stack) stack-holds) in
+          omega (
+            arith,
+            e,
+            length-append handle below,
+            handle-count (encode n s ++ rest) (fromOf (encode n s ++ rest) c + stackSize below) (headOf (encode n s ++ rest) c) handle (handle-holds .stands),
+          )
 
       -- the rule found on the words is the machine's
       pub handle-matches : (words : List ℕ)

@@ -1,12 +1,12 @@
 -- What a move reads of an area's words: the topmost terminal of a chunk's stack, whether a nonterminal is on top, whether the
--- stack is # and an axiom, where the handle starts, and the next live chunk.
+-- stack is # and an axiom, where the handle starts and how many symbols it has, and the next live chunk.
 -- Document 01, "Moves of a chunk": "next symbol b and topmost stack terminal a"; "if the top is one too"; "the stack is # and
 -- an axiom"; "the handle runs from the topmost marked one to the top, with the nonterminal just below that mark if there is one"; "the
 -- next live chunk".
 -- A reading of a stack is said of every stack that stands in the words.
 -- Rests on MoveWords, on machine's Entries and Moves, and on laws' Least.
 --
--- Main definitions: Told, Holds, HasStack; TopIs, NonterminalOnTop, EndAndAxiom, handleBelow, HandleStarts, liveAfter.
+-- Main definitions: Told, Holds, HasStack; TopIs, NonterminalOnTop, EndAndAxiom, handleBelow, HandleStarts, HandleIs, liveAfter.
 use mathlib.Core.Path.{_≡_}
 use mathlib.Core.Bool.{Bool, true, false}
 use mathlib.Core.List.{List, [], _∷_}
@@ -96,13 +96,19 @@ handleBelow (nonterminalOn k v ∷ stack) = handleBelow stack
 handleBelow (terminalOn false a v ∷ stack) = handleBelow stack
 handleBelow (terminalOn true a v ∷ stack) = belowMark stack
 
--- the slot above what lies below a mark, for the stack under the mark
-pub record BelowMark (area : List ℕ) (s e at : ℕ) : Type 0 where
+-- the slot above what lies below a mark, for the stack under the mark, and how many of its symbols go with the handle
+pub record BelowMark (area : List ℕ) (s e at more : ℕ) : Type 0 where
   pub found : (stack : List (Entry Span)) → Holds area s e stack → at ≡ s + stackSize (belowMark stack)
+  pub counted : (stack : List (Entry Span)) → Holds area s e stack → more + length (belowMark stack) ≡ length stack
 
 -- the slot where the handle starts
 pub record HandleStarts (area : List ℕ) (s e at : ℕ) : Type 0 where
   pub found : (stack : List (Entry Span)) → Holds area s e stack → at ≡ s + stackSize (handleBelow stack)
+
+-- .. and how many symbols it has
+pub record HandleIs (area : List ℕ) (s e start count : ℕ) : Type 0 where
+  pub starts : HandleStarts area s e start
+  pub counted : (stack : List (Entry Span)) → Holds area s e stack → count + length (handleBelow stack) ≡ length stack
 
 -- ---- the next live chunk
 

@@ -1,17 +1,17 @@
 -- What stays while other words are stored: the count of moves while two chunks are joined, so that the join can be counted; the words below a
--- handle and the length while it is replaced, so that the reduction can be noted.
+-- handle and the length while it is replaced, so that the hand's words are where they were.
 -- Rests on MoveWords.
 --
--- Main statements: one-ready, cleared-before, over-before, over-length, replaced-before, replaced-roomy.
+-- Main statements: one-ready, cleared-before, over-before, over-length, replaced-before.
 use Prim.Native.Nat.{ℕ, zero, suc, _+_, _*_, _-_, _<_, _≤_}
 use mathlib.Core.Path.{_≡_, _∙_}
 use mathlib.Core.List.{List, _++_}
 use native.Mathlib.Omega.{arith}
 use lib.ListN.{length, getD, take, drop, set, length-set, length-append, length-replicate, length-take, length-drop, List·getD-append}
 use lib.Seq.{getD-set-other, getD-take}
-use Rattle.layout.specs.Layout.{zeros, tableAt, slotWord, madeAtWord}
-use Rattle.moving.specs.MoveWords.{fromOf, headOf, endOf, marksOf, slotAt, putWords, endedWords, unmarkWords, goneWords}
-use Rattle.moving.specs.MoveWords.{oneWords, clearedWords, laidWords, overWords, notedWords, replacedWords, Ticks, Roomy, Reducible}
+use Rattle.layout.specs.Layout.{zeros, tableAt}
+use Rattle.moving.specs.MoveWords.{fromOf, headOf, endOf, marksOf, slotAt, unmarkWords, goneWords}
+use Rattle.moving.specs.MoveWords.{oneWords, clearedWords, laidWords, overWords, replacedWords, Ticks, Reducible}
 
 -- a store past word 3
 pub ticks-set : (area : List ℕ) (i v : ℕ) {moves : ℕ} → 3 < i → Ticks area moves → Ticks (set area i v) moves
@@ -81,14 +81,3 @@ module _ (area : List ℕ) (c from symbol : ℕ) (h : Reducible area c from) whe
   replaced-before j l =
       getD-set-other (overWords area from (headOf area c) symbol) (tableAt c 4) j (marksOf area c - 1) 0 (omega arith)
       ∙ over-before area from (headOf area c) symbol j (omega arith) (h .some) (omega (arith, inside))
-
-  replaced-length : length (replacedWords area c from symbol) ≡ length area
-  unfolding replacedWords
-  replaced-length = simp length-set (over-length area from (headOf area c) symbol inside)
-
-  -- the reduction can be noted
-  pub replaced-roomy : Roomy (replacedWords area c from symbol)
-  replaced-roomy = record {
-    made = rw (replaced-before 4 (omega arith), replaced-before 0 (omega arith)) (h .room .made);
-    room = rw (replaced-before 1 (omega arith), replaced-before 0 (omega arith), replaced-length) (h .room .room);
-  }

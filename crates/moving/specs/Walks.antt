@@ -1,14 +1,15 @@
--- A walk down a stack, block by block, to what it looks for: the topmost terminal, or the topmost mark.
+-- A walk down a stack, block by block, to what it looks for: the topmost terminal, or the topmost mark, the symbols on the way counted.
 -- Rests on ReadWords and StackWords.
 --
--- Main definition: Down. Main statements: down-ends and down-under (what a turn asks), down-none (nothing is left); top-found, top-more;
--- mark-found, mark-more; nonterminal-top, below-start, below-here, below-ends.
+-- Main definitions: Down, Counted. Main statements: down-ends and down-under (what a turn asks), down-none (nothing is left); top-found, top-more;
+-- nonterminal-top, below-start, below-here, below-ends; counted-begins, counted-none, mark-found, mark-counted, mark-more.
 use Prim.Native.Nat.{ℕ, _+_, _<_, _≤_}
 use mathlib.Core.Path.{_≡_, refl, sym, ap, _∙_}
 use mathlib.Core.Bool.{Bool, true, false, true≢false, false≢true}
 use mathlib.Core.List.{List, [], _∷_}
 use native.Mathlib.Omega.{arith}
 use lib.Dec.{leb}
+use lib.ListN.{length}
 use Rattle.laws.specs.Tests.{le-leb, lt-leb}
 use Rattle.language.specs.Trees.{Span}
 use Rattle.machine.specs.Entries.{Entry, terminalOn, nonterminalOn, topTerminal, topIsNonterminal}
@@ -101,32 +102,79 @@ module _ {area : List ℕ} {s e : ℕ} where
 
 -- ---- the topmost mark
 
+-- how many symbols go with the handle
+count-nonterminal : (stack : List (Entry Span)) → topIsNonterminal stack ≡ true → 1 + length (belowMark stack) ≡ length stack
+count-nonterminal [] b = absurd (false≢true b)
+count-nonterminal (terminalOn mark a v ∷ stack) b = absurd (false≢true b)
+count-nonterminal (nonterminalOn k v ∷ stack) b = omega arith
+
+count-terminal : (stack : List (Entry Span)) → topIsNonterminal stack ≡ false → 0 + length (belowMark stack) ≡ length stack
+count-terminal [] b = refl
+count-terminal (terminalOn mark a v ∷ stack) b = omega arith
+count-terminal (nonterminalOn k v ∷ stack) b = absurd (true≢false b)
+
 -- what lies below it: the nonterminal just below goes with the handle
 module _ {area : List ℕ} {s e : ℕ} {on : Bool} (n : NonterminalOnTop area s e on) where
-  pub below-start : on ≡ true → BelowMark area s e (startSlot area e)
-  below-start t = record { found = λ stack h. below-nonterminal stack h (sym (n .found stack h) ∙ t) }
+  pub below-start : on ≡ true → BelowMark area s e (startSlot area e) 1
+  below-start t = record {
+    found = λ stack h. below-nonterminal stack h (sym (n .found stack h) ∙ t);
+    counted = λ stack h. count-nonterminal stack (sym (n .found stack h) ∙ t);
+  }
 
-  pub below-here : on ≡ false → BelowMark area s e e
-  below-here t = record { found = λ stack h. below-terminal stack h (sym (n .found stack h) ∙ t) }
+  pub below-here : on ≡ false → BelowMark area s e e 0
+  below-here t = record {
+    found = λ stack h. below-terminal stack h (sym (n .found stack h) ∙ t);
+    counted = λ stack h. count-terminal stack (sym (n .found stack h) ∙ t);
+  }
 
   pub below-ends : Stacked area s e → on ≡ true → EndsBlock area e
   below-ends k t = nonterminal-ends (k .stack) (k .holds) (sym (n .found (k .stack) (k .holds)) ∙ t)
 
-module _ {area : List ℕ} {s at : ℕ} {stack : List (Entry Span)} (d : Down _ handleBelow area s at stack) (l : s < at) where
-  pub mark-found : 0 < slotWord area (startSlot area at) 1 → {r : ℕ} → BelowMark area s (startSlot area at) r → r ≡ s + stackSize (handleBelow stack)
-  mark-found b {r} m = go (d .left) (d .holds) (d .same)
-    where
-      go : (left : List (Entry Span)) → Holds area s at left → handleBelow stack ≡ handleBelow left → r ≡ s + stackSize (handleBelow stack)
-      go [] h e = absurd (omega (arith, h .stands .stop))
-      go (terminalOn true a v ∷ left) h e = rw e (m .found left (slot-under h))
-      go (terminalOn false a v ∷ left) h e = absurd (omega (arith, slot-mark h))
-      go (nonterminalOn k v ∷ left) h e = absurd (omega (arith, slot-mark h))
+-- the stack walked down to slot `at`, `count` symbols passed
+pub record Counted (area : List ℕ) (s at count : ℕ) (stack : List (Entry Span)) : Type 0 where
+  pub down : Down _ handleBelow area s at stack
+  pub counted : count + length (down .left) ≡ length stack
 
-  pub mark-more : slotWord area (startSlot area at) 1 ≤ 0 → Down _ handleBelow area s (startSlot area at) stack
-  mark-more b = go (d .left) (d .holds) (d .same)
+pub counted-begins : {area : List ℕ} {s at : ℕ} {stack : List (Entry Span)} → Holds area s at stack → Counted area s at 0 stack
+counted-begins {stack = stack} h = record { down = record { left = stack; holds = h; same = refl }; counted = omega arith }
+
+module _ {area : List ℕ} {s at count : ℕ} {stack : List (Entry Span)} (d : Counted area s at count stack) where
+  -- no mark: the handle is all
+  pub counted-none : at ≤ s → count + length (handleBelow stack) ≡ length stack
+  counted-none l = go (d .down .left) (d .down .holds) (d .down .same) (d .counted)
     where
-      go : (left : List (Entry Span)) → Holds area s at left → handleBelow stack ≡ handleBelow left → Down _ handleBelow area s (startSlot area at) stack
-      go [] h e = absurd (omega (arith, h .stands .stop))
-      go (terminalOn true a v ∷ left) h e = absurd (omega (arith, slot-mark h))
-      go (terminalOn false a v ∷ left) h e = record { left = left; holds = slot-under h; same = e }
-      go (nonterminalOn k v ∷ left) h e = record { left = left; holds = slot-under h; same = e }
+      go : (left : List (Entry Span)) → Holds area s at left → handleBelow stack ≡ handleBelow left → count + length left ≡ length stack
+          → count + length (handleBelow stack) ≡ length stack
+      go [] h e q = rw e q
+      go (x ∷ left) h e q = absurd (omega (arith, h .stands .stop))
+
+  module _ (l : s < at) where
+    module _ (b : 0 < slotWord area (startSlot area at) 1) {r more : ℕ} (m : BelowMark area s (startSlot area at) r more) where
+      pub mark-found : r ≡ s + stackSize (handleBelow stack)
+      mark-found = go (d .down .left) (d .down .holds) (d .down .same)
+        where
+          go : (left : List (Entry Span)) → Holds area s at left → handleBelow stack ≡ handleBelow left → r ≡ s + stackSize (handleBelow stack)
+          go [] h e = absurd (omega (arith, h .stands .stop))
+          go (terminalOn true a v ∷ left) h e = rw e (m .found left (slot-under h))
+          go (terminalOn false a v ∷ left) h e = absurd (omega (arith, slot-mark h))
+          go (nonterminalOn k v ∷ left) h e = absurd (omega (arith, slot-mark h))
+
+      pub mark-counted : count + 1 + more + length (handleBelow stack) ≡ length stack
+      mark-counted = go (d .down .left) (d .down .holds) (d .down .same) (d .counted)
+        where
+          go : (left : List (Entry Span)) → Holds area s at left → handleBelow stack ≡ handleBelow left → count + length left ≡ length stack
+              → count + 1 + more + length (handleBelow stack) ≡ length stack
+          go [] h e q = absurd (omega (arith, h .stands .stop))
+          go (terminalOn true a v ∷ left) h e q = rw e (omega (arith, q, m .counted left (slot-under h)))
+          go (terminalOn false a v ∷ left) h e q = absurd (omega (arith, slot-mark h))
+          go (nonterminalOn k v ∷ left) h e q = absurd (omega (arith, slot-mark h))
+
+    pub mark-more : slotWord area (startSlot area at) 1 ≤ 0 → Counted area s (startSlot area at) (count + 1) stack
+    mark-more b = go (d .down .left) (d .down .holds) (d .down .same) (d .counted)
+      where
+        go : (left : List (Entry Span)) → Holds area s at left → handleBelow stack ≡ handleBelow left → count + length left ≡ length stack
+            → Counted area s (startSlot area at) (count + 1) stack
+        go [] h e q = absurd (omega (arith, h .stands .stop))
+        go (terminalOn true a v ∷ left) h e q = absurd (omega (arith, slot-mark h))
+        go (terminalOn false a v ∷ left) h e q = record { down = record { left = left; holds = slot-under h; same = e }; counted = omega (arith, q) }
+        go (nonterminalOn k v ∷ left) h e q = record { down = record { left = left; holds = slot-under h; same = e }; counted = omega (arith, q) }

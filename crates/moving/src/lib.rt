@@ -2,7 +2,8 @@
 // machine's move of the state that the words stand for, and what the calls that make them answer and leave. Here stand the types that this
 // speaks of, and the rest in specs/; the code of the moves is crate `reader`.
 
-// What a run has at hand of its chunk: the chunk's row of the table, and the counts of reductions and of moves. The area holds the same.
+// What a run has at hand of its chunk: the chunk's row of the table, the counts of reductions and of moves, and the word where the slots start. The area holds
+// the row and the counts once the run has ended.
 pub struct Hand {
     pub status: u16,
     pub from: u16,
@@ -11,12 +12,19 @@ pub struct Hand {
     pub marks: u32,
     pub reductions: u32,
     pub moves: u32,
+    pub base: usize,
 }
 
 // The topmost terminal of a stack, or that it has none.
 pub enum Top {
     Terminal(u16),
     NoTerminal,
+}
+
+// The handle of a stack: the slot where it starts, and how many symbols it has.
+pub struct Handle {
+    pub start: usize,
+    pub count: usize,
 }
 
 // The rule of a handle, or that there is none.

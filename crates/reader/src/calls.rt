@@ -6,15 +6,15 @@ use moving::Matched;
 use moving::Move;
 use moving::Top;
 ghost use mathlib.Core.Path.{_≡_};
-ghost use Prim.Native.Nat.{_+_, _*_, _≤_, _<_};
+ghost use Prim.Native.Nat.{_+_, _-_, _≤_, _<_};
 ghost use lib.Dec.{eqb};
 ghost use lib.ListN.{length, getD};
-ghost use Rattle.language.specs.Words.{countR, entry, word};
+ghost use Rattle.language.specs.Words.{entry, word};
 ghost use Rattle.layout.specs.Layout.{slotsAt};
 ghost use Rattle.moving.specs.OneMove.{Movable};
 ghost use Rattle.moving.specs.RunMoves.{Runnable, RanWords};
 ghost use Rattle.moving.specs.Moved.{Moved, uncounted, Possible, CallsFor, Facing, Takes, HasLeft, liveIn, restsBy, restsIn};
-ghost use Rattle.moving.specs.AtHand.{AtHand};
+ghost use Rattle.moving.specs.Settled.{settled, Holding};
 
 // Whether number c is live.
 pub(crate) fn is_live(area: &[u16], c: usize) -> bool
@@ -56,15 +56,17 @@ fn left_word(words: &[u16], r: u16) -> u16
 // Rules 5 and 6: the topmost terminal takes over the next symbol. Where the stack has a mark, the handle is replaced by the left side of
 // the least rule that has it, or the chunk is stuck with 18.
 fn takes(words: &[u16], matrix: &[u8], area: &[u16], c: usize, hand: Hand) -> Move
-    requires { ⌜ Takes (now words) (now matrix) (now area) c × AtHand (now area) c hand ⌝ }
-    ensures { λ r. ⌜ CallsFor (now (words .entry)) (now (matrix .entry)) (now (area .entry)) c r ⌝ }
+    requires { ⌜ Takes (now words) (now matrix) (settled (now area) c hand) c × Holding (now area) c hand ⌝ }
+    ensures { λ r. ⌜ CallsFor (now (words .entry)) (now (matrix .entry)) (settled (now (area .entry)) c hand) c r ⌝ }
 {
     if hand.marks == 0 {
         return Move::Push(0);
     }
     let head = hand.head as usize;
-    let start = moves::find_mark(area, hand.from as usize, head);
-    if let Matched::Rule(r) = moves::match_rule(words, area, start, head) {
+    let base = hand.base;
+    let handle = moves::find_mark(area, base, hand.from as usize, head);
+    let start = handle.start;
+    if let Matched::Rule(r) = moves::match_rule(words, area, base, start, head, handle.count) {
         return Move::Reduce(start as u16, left_word(words, r), r);
     }
     Move::Stick(18)
@@ -72,8 +74,8 @@ fn takes(words: &[u16], matrix: &[u8], area: &[u16], c: usize, hand: Hand) -> Mo
 
 // Rules 3 to 6: a is the topmost terminal and b the next symbol. Where they are equal, # over # is the last move, or the chunk is stuck with 19.
 fn related(words: &[u16], matrix: &[u8], area: &[u16], c: usize, hand: Hand, a: u16, b: u16) -> Move
-    requires { ⌜ Facing (now words) (now matrix) (now area) c a b × AtHand (now area) c hand ⌝ }
-    ensures { λ r. ⌜ CallsFor (now (words .entry)) (now (matrix .entry)) (now (area .entry)) c r ⌝ }
+    requires { ⌜ Facing (now words) (now matrix) (settled (now area) c hand) c a b × Holding (now area) c hand ⌝ }
+    ensures { λ r. ⌜ CallsFor (now (words .entry)) (now (matrix .entry)) (settled (now (area .entry)) c hand) c r ⌝ }
 {
     let byte = matrix[64 * (a as usize) + b as usize];
     if byte == 1 {
@@ -83,7 +85,13 @@ fn related(words: &[u16], matrix: &[u8], area: &[u16], c: usize, hand: Hand, a: 
         if (0 < a) | (0 < b) {
             return Move::Push(0);
         }
-        if moves::end_and_axiom(area, hand.from as usize, hand.head as usize, words[2]) {
+        if moves::end_and_axiom(
+            area,
+            hand.base,
+            hand.from as usize,
+            hand.head as usize,
+            words[2],
+        ) {
             return Move::Accept;
         }
         return Move::Stick(19);
@@ -96,19 +104,19 @@ fn related(words: &[u16], matrix: &[u8], area: &[u16], c: usize, hand: Hand, a: 
 
 // The move of chunk c, a live one that is not at rest: rules 1 and 2 here, the others where the stack has a terminal.
 fn next_move(words: &[u16], matrix: &[u8], area: &[u16], c: usize, hand: Hand) -> Move
-    requires { ⌜ Movable (now words) (now matrix) (now area) c × AtHand (now area) c hand ⌝ }
-    ensures { λ r. ⌜ CallsFor (now (words .entry)) (now (matrix .entry)) (now (area .entry)) c r ⌝ }
+    requires { ⌜ Movable (now words) (now matrix) (settled (now area) c hand) c × Holding (now area) c hand ⌝ }
+    ensures { λ r. ⌜ CallsFor (now (words .entry)) (now (matrix .entry)) (settled (now (area .entry)) c hand) c r ⌝ }
 {
     let from = hand.from as usize;
     let head = hand.head as usize;
-    let b = moves::slot_word(area, head, 0);
+    let b = moves::slot_word(area, hand.base, head, 0);
     if 256 <= b {
-        if moves::nonterminal_on_top(area, from, head) {
+        if moves::nonterminal_on_top(area, hand.base, from, head) {
             return Move::Stick(20);
         }
         return Move::Push(0);
     }
-    if let Top::Terminal(a) = moves::top_terminal(area, from, head) {
+    if let Top::Terminal(a) = moves::top_terminal(area, hand.base, from, head) {
         return related(words, matrix, area, c, hand, a, b);
     }
     Move::Push(0)
@@ -116,14 +124,13 @@ fn next_move(words: &[u16], matrix: &[u8], area: &[u16], c: usize, hand: Hand) -
 
 // This move of chunk c, not yet counted; what is at hand after it.
 fn moved(area: &mut [u16], c: usize, mut hand: Hand, next: Move) -> Hand
-    requires { ⌜ Possible (now area) c next × AtHand (now area) c hand ⌝ }
-    ensures { λ r. ⌜ (now (area .exit) ≡ uncounted (now (area .entry)) c next) × AtHand (now (area .exit)) c r × (r .moves ≡ hand .moves) ⌝ }
+    requires { ⌜ Possible (settled (now area) c hand) c next × Holding (now area) c hand ⌝ }
+    ensures { λ r. ⌜ (settled (now (area .exit)) c r ≡ uncounted (settled (now (area .entry)) c hand) c next) × Holding (now (area .exit)) c r × (r .moves ≡ hand .moves) ⌝ }
 {
     match next {
         Move::Push(mark) => moves::push(area, c, hand, mark),
         Move::Stick(status) => {
             hand.status = status;
-            area[5 + 5 * c + 0] = status;
             hand
         }
         Move::Accept => moves::accept(area, c, hand),
@@ -132,21 +139,39 @@ fn moved(area: &mut [u16], c: usize, mut hand: Hand, next: Move) -> Hand
 }
 
 // One move of chunk c, a live one that is not at rest; what is at hand after it.
-pub(crate) fn make_move(
+fn make_move(words: &[u16], matrix: &[u8], area: &mut [u16], c: usize, hand: Hand) -> Hand
+    requires { ⌜ Movable (now words) (now matrix) (settled (now area) c hand) c × Holding (now area) c hand ⌝ }
+    ensures { λ r. ⌜ Moved (now (words .entry)) (now (matrix .entry)) (settled (now (area .entry)) c hand) c (settled (now (area .exit)) c r) ⌝ }
+    ensures { λ r. ⌜ Holding (now (area .exit)) c r × (r .moves ≡ hand .moves + 1) ⌝ }
+{
+    let next = next_move(words, matrix, area, c, hand);
+    let mut after = moved(area, c, hand, next);
+    after.moves += 1;
+    after
+}
+
+// Moves of chunk c, a live one, until so many are made or it rests; what is at hand then, with the moves made counted.
+fn moves_until(
     words: &[u16],
     matrix: &[u8],
     area: &mut [u16],
     c: usize,
-    hand: Hand,
+    mut hand: Hand,
+    budget: u32,
 ) -> Hand
-    requires { ⌜ Movable (now words) (now matrix) (now area) c × AtHand (now area) c hand ⌝ }
-    ensures { λ _. ⌜ Moved (now (words .entry)) (now (matrix .entry)) (now (area .entry)) c (now (area .exit)) ⌝ }
-    ensures { λ r. ⌜ AtHand (now (area .exit)) c r ⌝ }
+    requires { ⌜ Runnable (now words) (now matrix) (settled (now area) c hand) c × Holding (now area) c hand ⌝ }
+    ensures { λ r. ⌜ RanWords (now (words .entry)) (now (matrix .entry)) (settled (now (area .entry)) c hand) c budget (r .moves - hand .moves) (settled (now (area .exit)) c r) ⌝ }
+    ensures { λ r. ⌜ Holding (now (area .exit)) c r × (hand .moves ≤ r .moves) ⌝ }
 {
-    let next = next_move(words, matrix, area, c, hand);
-    let mut after = moved(area, c, hand, next);
-    after.moves = moves::tick(area, after.moves);
-    after
+    let mut made: u32 = 0;
+    while made < budget {
+        if resting(hand) {
+            return hand;
+        }
+        hand = make_move(words, matrix, area, c, hand);
+        made += 1;
+    }
+    hand
 }
 
 // Moves of chunk c, a live one, until so many are made or it rests; how many were made.
@@ -160,14 +185,8 @@ pub(crate) fn make_moves(
     requires { ⌜ Runnable (now words) (now matrix) (now area) c ⌝ }
     ensures { λ made. ⌜ RanWords (now (words .entry)) (now (matrix .entry)) (now (area .entry)) c budget made (now (area .exit)) ⌝ }
 {
-    let mut hand = moves::hand_of(area, c);
-    let mut made: u32 = 0;
-    while made < budget {
-        if resting(hand) {
-            return made;
-        }
-        hand = make_move(words, matrix, area, c, hand);
-        made += 1;
-    }
-    made
+    let hand = moves::hand_of(area, c);
+    let after = moves_until(words, matrix, area, c, hand, budget);
+    moves::settle(area, c, after);
+    after.moves - hand.moves
 }

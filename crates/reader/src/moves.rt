@@ -1,37 +1,32 @@
 // The moves of a chunk and the join of two, on the words of a lent work area; and what a move reads of these words.
 // Each function that writes leaves exactly the words that a definition of moving/specs/MoveWords.antt names. No symbol moves.
-// What a run needs again at each move goes by value from move to move beside the area (`Hand`), which holds the same.
+// What a run needs again at each move goes by value from move to move beside the area (`Hand`): a move stores what it changes of the slots and the
+// reductions, and `settle` stores the rest when the run ends. The contracts speak of the area as `settle` would leave it (`settled`).
 use moving::Hand;
+use moving::Handle;
 use moving::Matched;
 use moving::Next;
 use moving::Top;
 ghost use mathlib.Core.Path.{_≡_};
 ghost use Prim.Native.Nat.{_+_, _*_, _-_, _≤_, _<_};
 ghost use lib.ListN.{length, getD};
-ghost use Rattle.layout.specs.Layout.{slotsAt, slotWord, tableAt, rowWord, movesIn};
+ghost use Rattle.layout.specs.Layout.{slotsAt, slotWord, madeAtWord, tableAt, rowWord, movesIn};
 ghost use Rattle.moving.specs.MoveWords.{tickWords, putWords, endedWords, unmarkWords, joinWords};
-ghost use Rattle.moving.specs.MoveWords.{clearedWords, overWords, notedWords, madeWords};
-ghost use Rattle.moving.specs.MoveWords.{Ticks, Pushable, Acceptable, Joinable, Laid, Roomy, Reducible};
+ghost use Rattle.moving.specs.MoveWords.{clearedWords, overWords, entryWords, madeWords};
+ghost use Rattle.moving.specs.MoveWords.{Ticks, Pushable, Acceptable, Joinable, Laid, Reducible};
 ghost use Rattle.moving.specs.MoveWords.{slotAt};
 ghost use Rattle.moving.specs.AtHand.{AtHand};
-ghost use Rattle.moving.specs.ReadWords.{Stacked, EndsBlock, startSlot, TopIs, NonterminalOnTop, EndAndAxiom, HandleStarts, nextOf, liveAfter};
+ghost use Rattle.moving.specs.Settled.{settled, Holding};
+ghost use Rattle.moving.specs.ReadWords.{Stacked, EndsBlock, startSlot, TopIs, NonterminalOnTop, EndAndAxiom, HandleIs, nextOf, liveAfter};
 ghost use Rattle.moving.specs.MatchWords.{Readable, Whole, handleWords, matchWords, matchedOf};
 ghost use Rattle.language.specs.Words.{countR, entry, bodyEnd};
 
-// The word where slot s starts.
-fn slot_at(area: &[u16], s: usize) -> usize
-    requires { ⌜ slotAt (now area) s ≤ length (now area) ⌝ }
-    ensures { λ r. ⌜ r ≡ slotAt (now (area .entry)) s ⌝ }
-{
-    5 + 5 * (area[1] as usize) + 4 * s
-}
-
-// Word k of slot s.
-pub(crate) fn slot_word(area: &[u16], s: usize, k: usize) -> u16
-    requires { ⌜ slotAt (now area) s + k < length (now area) ⌝ }
+// Word k of slot s; the slots start at word `base`.
+pub(crate) fn slot_word(area: &[u16], base: usize, s: usize, k: usize) -> u16
+    requires { ⌜ (base ≡ slotsAt (now area)) × (slotAt (now area) s + k < length (now area)) ⌝ }
     ensures { λ r. ⌜ r ≡ slotWord (now (area .entry)) s k ⌝ }
 {
-    area[slot_at(area, s) + k]
+    area[base + 4 * s + k]
 }
 
 // Word k of chunk c's row of the table.
@@ -63,38 +58,34 @@ pub(crate) fn hand_of(area: &[u16], c: usize) -> Hand
         marks: row_word(area, c, 4) as u32,
         reductions: area[4] as u32,
         moves: moves_of(area),
+        base: 5 + 5 * (area[1] as usize),
     }
 }
 
-// One move more than the `moves` until now; how many that makes.
-pub(crate) fn tick(area: &mut [u16], moves: u32) -> u32
+// Counts one move after the `moves` until now.
+fn tick(area: &mut [u16], moves: u32)
     requires { ⌜ Ticks (now area) moves ⌝ }
-    ensures { λ r. ⌜ (r ≡ moves + 1) × (now (area .exit) ≡ tickWords (now (area .entry))) ⌝ }
+    ensures { λ _. ⌜ now (area .exit) ≡ tickWords (now (area .entry)) ⌝ }
 {
     let more = moves + 1;
     area[2] = (more % 65536) as u16;
     area[3] = (more / 65536) as u16;
-    more
 }
 
 // Puts chunk c's next unread symbol on its stack, with this mark (0 or 1); the move is not yet counted.
 pub(crate) fn push(area: &mut [u16], c: usize, mut hand: Hand, mark: u16) -> Hand
-    requires { ⌜ Pushable (now area) c mark × AtHand (now area) c hand ⌝ }
-    ensures { λ r. ⌜ (now (area .exit) ≡ putWords (now (area .entry)) c mark) × AtHand (now (area .exit)) c r × (r .moves ≡ hand .moves) ⌝ }
+    requires { ⌜ Pushable (settled (now area) c hand) c mark × Holding (now area) c hand ⌝ }
+    ensures { λ r. ⌜ (settled (now (area .exit)) c r ≡ putWords (settled (now (area .entry)) c hand) c mark) × Holding (now (area .exit)) c r × (r .moves ≡ hand .moves) ⌝ }
 {
-    let line = 5 + 5 * c;
-    let head = hand.head;
-    let slot = slot_at(area, head as usize);
-    hand.head = head + area[slot + 2];
+    let slot = hand.base + 4 * (hand.head as usize);
+    hand.head += area[slot + 2];
     hand.marks += mark as u32;
     area[slot + 1] = mark;
-    area[line + 2] = hand.head;
-    area[line + 4] = hand.marks as u16;
     hand
 }
 
 // Puts 0 at `count` words, the first at `at`.
-pub(crate) fn zero(area: &mut [u16], at: usize, count: usize)
+fn zero(area: &mut [u16], at: usize, count: usize)
     requires { ⌜ at + count ≤ length (now area) ⌝ }
     ensures { λ _. ⌜ now (area .exit) ≡ clearedWords (now (area .entry)) at count ⌝ }
 {
@@ -107,14 +98,11 @@ pub(crate) fn zero(area: &mut [u16], at: usize, count: usize)
 
 // Chunk c reads the # of the end, its stack unchanged; the move is not yet counted.
 pub(crate) fn accept(area: &mut [u16], c: usize, mut hand: Hand) -> Hand
-    requires { ⌜ Acceptable (now area) c × AtHand (now area) c hand ⌝ }
-    ensures { λ r. ⌜ (now (area .exit) ≡ endedWords (now (area .entry)) c) × AtHand (now (area .exit)) c r × (r .moves ≡ hand .moves) ⌝ }
+    requires { ⌜ Acceptable (settled (now area) c hand) c × Holding (now area) c hand ⌝ }
+    ensures { λ r. ⌜ (settled (now (area .exit)) c r ≡ endedWords (settled (now (area .entry)) c hand) c) × Holding (now (area .exit)) c r × (r .moves ≡ hand .moves) ⌝ }
 {
-    let end = hand.end - 1;
-    let slot = slot_at(area, end as usize);
-    zero(area, slot, 4);
-    area[5 + 5 * c + 3] = end;
-    hand.end = end;
+    hand.end -= 1;
+    zero(area, hand.base + 4 * (hand.end as usize), 4);
     hand
 }
 
@@ -140,7 +128,7 @@ pub(crate) fn join_chunks(area: &mut [u16], c: usize, d: usize)
     let other = hand_of(area, d);
     let from = other.from;
     let head = other.head;
-    let slot = slot_at(area, from as usize);
+    let slot = other.base + 4 * (from as usize);
     unmark(area, slot + 1, (head - from) as usize);
     area[5 + 5 * c + 3] = other.end;
     zero(area, 5 + 5 * d, 5);
@@ -164,26 +152,24 @@ fn clear(area: &mut [u16], from: usize, to: usize)
     }
 }
 
-// Adds a reduction to the `made` until now: rule, first place, place after the last.
-fn note(area: &mut [u16], made: u32, rule: u16, first: u16, after: u16)
-    requires { ⌜ Roomy (now area) × (made ≡ getD (now area) 4 0) ⌝ }
-    ensures { λ _. ⌜ now (area .exit) ≡ notedWords (now (area .entry)) rule first after ⌝ }
+// Puts in a reduction after the `made` until now: rule, first place, place after the last. It is not yet counted.
+fn note(area: &mut [u16], base: usize, made: u32, rule: u16, first: u16, after: u16)
+    requires { ⌜ (base ≡ slotsAt (now area)) × (madeAtWord (now area) + 3 * made + 3 ≤ length (now area)) ⌝ }
+    ensures { λ _. ⌜ now (area .exit) ≡ entryWords (now (area .entry)) made rule first after ⌝ }
 {
-    let end = slot_at(area, (area[0] as usize) + 2);
-    let at = end + 3 * (made as usize);
+    let at = base + 4 * ((area[0] as usize) + 2) + 3 * (made as usize);
     area[at] = rule;
     area[at + 1] = first;
     area[at + 2] = after;
-    area[4] = (made + 1) as u16;
 }
 
 // Lays one unmarked symbol over the slots from `from` up to `head`, the symbols there cleared.
-fn lay(area: &mut [u16], from: u16, head: u16, symbol: u16)
-    requires { ⌜ (from < head) × Laid (now area) (slotAt (now area) from) (slotAt (now area) head) × (slotAt (now area) head ≤ length (now area)) ⌝ }
+fn lay(area: &mut [u16], base: usize, from: u16, head: u16, symbol: u16)
+    requires { ⌜ (base ≡ slotsAt (now area)) × (from < head) × Laid (now area) (slotAt (now area) from) (slotAt (now area) head) × (slotAt (now area) head ≤ length (now area)) ⌝ }
     ensures { λ _. ⌜ now (area .exit) ≡ overWords (now (area .entry)) from head symbol ⌝ }
 {
-    let at = slot_at(area, from as usize);
-    let to = slot_at(area, head as usize);
+    let at = base + 4 * (from as usize);
+    let to = base + 4 * (head as usize);
     clear(area, at, to);
     let size = head - from;
     area[at] = symbol;
@@ -201,47 +187,62 @@ pub(crate) fn reduce(
     symbol: u16,
     rule: u16,
 ) -> Hand
-    requires { ⌜ Reducible (now area) c from × AtHand (now area) c hand ⌝ }
-    ensures { λ r. ⌜ (now (area .exit) ≡ madeWords (now (area .entry)) c from symbol rule) × AtHand (now (area .exit)) c r × (r .moves ≡ hand .moves) ⌝ }
+    requires { ⌜ Reducible (settled (now area) c hand) c from × Holding (now area) c hand ⌝ }
+    ensures { λ r. ⌜ (settled (now (area .exit)) c r ≡ madeWords (settled (now (area .entry)) c hand) c from symbol rule) × Holding (now (area .exit)) c r × (r .moves ≡ hand .moves) ⌝ }
 {
     let head = hand.head;
     let made = hand.reductions;
     hand.marks -= 1;
     hand.reductions = made + 1;
-    lay(area, from, head, symbol);
-    area[5 + 5 * c + 4] = hand.marks as u16;
-    note(area, made, rule, from - 1, head - 1);
+    lay(area, hand.base, from, head, symbol);
+    note(area, hand.base, made, rule, from - 1, head - 1);
     hand
 }
 
+// Stores what is at hand: the counts, and chunk c's row of the table.
+pub(crate) fn settle(area: &mut [u16], c: usize, hand: Hand)
+    requires { ⌜ Holding (now area) c hand ⌝ }
+    ensures { λ _. ⌜ now (area .exit) ≡ settled (now (area .entry)) c hand ⌝ }
+{
+    area[2] = (hand.moves % 65536) as u16;
+    area[3] = (hand.moves / 65536) as u16;
+    area[4] = hand.reductions as u16;
+    let row = 5 + 5 * c;
+    area[row + 0] = hand.status;
+    area[row + 1] = hand.from;
+    area[row + 2] = hand.head;
+    area[row + 3] = hand.end;
+    area[row + 4] = hand.marks as u16;
+}
+
 // The slot where the block that ends before slot `end` starts.
-fn block_start(area: &[u16], end: usize) -> usize
-    requires { ⌜ EndsBlock (now area) end ⌝ }
+fn block_start(area: &[u16], base: usize, end: usize) -> usize
+    requires { ⌜ (base ≡ slotsAt (now area)) × EndsBlock (now area) end ⌝ }
     ensures { λ r. ⌜ r ≡ startSlot (now (area .entry)) end ⌝ }
 {
-    end - area[slot_at(area, end) - 1] as usize
+    end - area[base + 4 * end - 1] as usize
 }
 
 // Whether the topmost symbol of the stack on the slots from `from` up to `end` is a nonterminal.
-pub(crate) fn nonterminal_on_top(area: &[u16], from: usize, end: usize) -> bool
-    requires { ⌜ Stacked (now area) from end ⌝ }
+pub(crate) fn nonterminal_on_top(area: &[u16], base: usize, from: usize, end: usize) -> bool
+    requires { ⌜ (base ≡ slotsAt (now area)) × Stacked (now area) from end ⌝ }
     ensures { λ r. ⌜ NonterminalOnTop (now (area .entry)) from end r ⌝ }
 {
     if end <= from {
         return false;
     }
-    256 <= slot_word(area, block_start(area, end), 0)
+    256 <= slot_word(area, base, block_start(area, base, end), 0)
 }
 
 // The topmost terminal of the stack on the slots from `from` up to `head`.
-pub(crate) fn top_terminal(area: &[u16], from: usize, head: usize) -> Top
-    requires { ⌜ Stacked (now area) from head ⌝ }
+pub(crate) fn top_terminal(area: &[u16], base: usize, from: usize, head: usize) -> Top
+    requires { ⌜ (base ≡ slotsAt (now area)) × Stacked (now area) from head ⌝ }
     ensures { λ r. ⌜ TopIs (now (area .entry)) from head r ⌝ }
 {
     let mut at = head;
     while from < at {
-        at = block_start(area, at);
-        let word = slot_word(area, at, 0);
+        at = block_start(area, base, at);
+        let word = slot_word(area, base, at, 0);
         if word < 256 {
             return Top::Terminal(word);
         }
@@ -249,41 +250,58 @@ pub(crate) fn top_terminal(area: &[u16], from: usize, head: usize) -> Top
     Top::NoTerminal
 }
 
-// The slot where the handle starts of the stack on the slots from `from` up to `head`: that of the topmost mark, or of the nonterminal just
-// below it; `from` where there is no mark.
-pub(crate) fn find_mark(area: &[u16], from: usize, head: usize) -> usize
-    requires { ⌜ Stacked (now area) from head ⌝ }
-    ensures { λ r. ⌜ HandleStarts (now (area .entry)) from head r ⌝ }
+// The handle of the stack on the slots from `from` up to `head`: it starts with the topmost mark, or with the nonterminal just below it; at
+// `from` where there is no mark.
+pub(crate) fn find_mark(area: &[u16], base: usize, from: usize, head: usize) -> Handle
+    requires { ⌜ (base ≡ slotsAt (now area)) × Stacked (now area) from head ⌝ }
+    ensures { λ r. ⌜ HandleIs (now (area .entry)) from head (r .start) (r .count) ⌝ }
 {
     let mut at = head;
+    let mut count: usize = 0;
     while from < at {
-        at = block_start(area, at);
-        if 0 < slot_word(area, at, 1) {
-            if nonterminal_on_top(area, from, at) {
-                return block_start(area, at);
+        at = block_start(area, base, at);
+        count += 1;
+        if 0 < slot_word(area, base, at, 1) {
+            if nonterminal_on_top(area, base, from, at) {
+                return Handle {
+                    start: block_start(area, base, at),
+                    count: count + 1,
+                };
             }
-            return at;
+            return Handle {
+                start: at,
+                count: count,
+            };
         }
     }
-    from
+    Handle {
+        start: from,
+        count: count,
+    }
 }
 
 // Whether the stack on the slots from `from` up to `head` is # and one of the first `axioms` nonterminals.
-pub(crate) fn end_and_axiom(area: &[u16], from: usize, head: usize, axioms: u16) -> bool
-    requires { ⌜ Stacked (now area) from head ⌝ }
+pub(crate) fn end_and_axiom(
+    area: &[u16],
+    base: usize,
+    from: usize,
+    head: usize,
+    axioms: u16,
+) -> bool
+    requires { ⌜ (base ≡ slotsAt (now area)) × Stacked (now area) from head ⌝ }
     ensures { λ r. ⌜ EndAndAxiom (now (area .entry)) from head axioms r ⌝ }
 {
     if head <= from {
         return false;
     }
-    let top = block_start(area, head);
+    let top = block_start(area, base, head);
     if top <= from {
         return false;
     }
-    let bottom = block_start(area, top);
-    let word = slot_word(area, top, 0) as usize;
+    let bottom = block_start(area, base, top);
+    let word = slot_word(area, base, top, 0) as usize;
     (bottom <= from)
-        & (slot_word(area, bottom, 0) == 0)
+        & (slot_word(area, base, bottom, 0) == 0)
         & (256 <= word)
         & (word < 256 + axioms as usize)
 }
@@ -323,46 +341,40 @@ fn body_end(words: &[u16], r: usize) -> usize
     words.len()
 }
 
-// How many symbols lie on the slots from `from` up to `head`.
-fn symbols_on(area: &[u16], from: usize, head: usize) -> usize
-    requires { ⌜ Whole (now area) head from × (slotAt (now area) head ≤ length (now area)) ⌝ }
-    ensures { λ r. ⌜ (r ≡ length (handleWords (now (area .entry)) from head)) × (r ≤ head) ⌝ }
-{
-    let mut count = 0;
-    let mut s = from;
-    while s < head {
-        s += slot_word(area, s, 2) as usize;
-        count += 1;
-    }
-    count
-}
-
-// The least rule whose right side is the handle on the slots from `from` up to `head`: one with as many words as the handle has symbols, its
-// words compared with the symbols where they lie.
-pub(crate) fn match_rule(words: &[u16], area: &[u16], from: usize, head: usize) -> Matched
-    requires { ⌜ Readable (now words) × Whole (now area) head from × (slotAt (now area) head ≤ length (now area)) × (from < head) ⌝ }
+// The least rule whose right side is the handle on the slots from `from` up to `head`, which has `count` symbols: one with as many words, its
+// words compared with the symbols where they lie. Where a rule's body ends, the next one's starts.
+pub(crate) fn match_rule(
+    words: &[u16],
+    area: &[u16],
+    base: usize,
+    from: usize,
+    head: usize,
+    count: usize,
+) -> Matched
+    requires { ⌜ (base ≡ slotsAt (now area)) × Readable (now words) × Whole (now area) head from × (slotAt (now area) head ≤ length (now area)) × (from < head)
+        × (count ≡ length (handleWords (now area) from head)) ⌝ }
     ensures { λ r. ⌜ r ≡ matchedOf (matchWords (now (words .entry)) (handleWords (now (area .entry)) from head)) ⌝ }
 {
     let rules = words[3] as usize;
-    let count = symbols_on(area, from, head);
     let mut next: usize = 0;
+    let mut end = words[4] as usize;
     let found = 'outer: loop {
         let r = next;
         if rules <= r {
             break Matched::NoRule;
         }
         next += 1;
-        let end = body_end(words, r);
-        let mut i = body_start(words, r) + 1;
+        let mut i = end + 1;
+        end = body_end(words, r);
         if end != i + count {
             continue 'outer;
         }
         let mut s = from;
-        while s < head {
-            if words[i] != slot_word(area, s, 0) {
+        while i < end {
+            if words[i] != slot_word(area, base, s, 0) {
                 continue 'outer;
             }
-            s += slot_word(area, s, 2) as usize;
+            s += slot_word(area, base, s, 2) as usize;
             i += 1;
         }
         break Matched::Rule(r as u16);

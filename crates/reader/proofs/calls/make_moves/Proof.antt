@@ -1,82 +1,55 @@
--- `calls::make_moves` meets its contract: the loop's invariant: so many moves of the run are made (`Underway`), and the hand is what the area holds.
--- The measure is what is left of the budget.
+-- `calls::make_moves` meets its contract: before the first move the area holds what is at hand, and after the last it is stored.
 use native.Mathlib.Omega.{arith}
-use mathlib.Core.Path.{_≡_, refl, sym, _∙_}
-use Prim.Native.Nat.{_-_}
-use lib.ListN.{length}
-use Rattle.moving.specs.AtHand.{AtHand}
-use Rattle.moving.specs.RunMoves.{Runnable, Underway, underway, underway-listed, underway-movable, underway-more, underway-rests, underway-spent}
-use Rattle.moving.specs.Hands.{hand-rests}
-use borrow.Author.Needs.{needs}
+use mathlib.Core.Path.{sym, subst, _∙_}
+use mathlib.Core.List.{List}
+use Prim.Native.Nat.{ℕ}
+use Rattle.layout.specs.Layout.{tableAt}
+use Rattle.moving.specs.RunMoves.{Runnable, underway, underway-listed}
+use Rattle.moving.specs.Settled.{holding, settled-now}
 use Rattle.reader.proofs.calls.make_moves.Statement.{statement}
 use Rattle.reader.proofs.calls.make_moves.Tie as tie
 
-abbrev Inv-loop : tie.InvT-loop
-Inv-loop words matrix area₀ c budget hand₀ made₀ area hand made =
-    ((m : Runnable words matrix area₀ c) → Underway words matrix m budget made area) × AtHand area c hand × (length area ≡ length area₀)
+hand-of-requires : tie.Need-hand-of-requires
+hand-of-requires c κs =
+    let s = c .before .before .before .before in
+    underway-listed (underway (s .pre) (s .args .budget))
 
-abbrev μ-loop : tie.MeasureT-loop
-μ-loop words matrix area₀ c budget hand₀ made₀ area hand made = budget - made
+moves-until-requires : tie.Need-moves-until-requires
+moves-until-requires c κs =
+    let s = c .before .before .before .before .before .before in
+    let a = c .before .hand-of .ensures in
+    let listed = underway-listed (underway (s .pre) (s .args .budget)) in
+    let words = c .before .before .before .slice-known .given in
+    let k = holding a (listed .0) (listed .1) (omega (arith, words (tableAt (s .args .c) 4))) (omega (arith, words 4)) in
+    let same = settled-now k (omega (arith, words 2)) a in
+    (subst (λ (l : List ℕ). Runnable (s .args .words .now) (s .args .matrix .now) l (s .args .c)) (sym same) (s .pre), k)
 
-hand-of-requires : tie.Need-hand-of-requires Inv-loop μ-loop
-hand-of-requires c κs = underway-listed (underway (c .before .before .before .before .pre) (c .before .before .before .before .args .budget))
+settle-requires : tie.Need-settle-requires
+settle-requires c κs = c .before .before .before .moves-until .ensures .1 .0
 
-loop-holds : tie.Need-loop-holds Inv-loop μ-loop
-loop-holds c = ((λ m. underway m (c .before .before .before .before .before .args .budget)), c .hand-of .ensures, refl)
+sub-result : tie.Need-sub-result
+sub-result c = omega (arith, c .before .before .before .before .before .before .before .before .moves-until .ensures .1 .1)
 
-resting-requires : tie.Need-resting-requires Inv-loop μ-loop
-resting-requires c κs = search needs
+same-length : tie.Need-same-length
+same-length c = c .before .before .before .before .settle .kept .0 ∙ c .before .before .before .before .before .before .before .before .moves-until .kept .1 .1 .0
 
-same-length : tie.Need-same-length Inv-loop μ-loop
-same-length c = c .before .before .before .loop .inv .2
-
-returns : tie.Need-returns Inv-loop μ-loop
+returns : tie.Need-returns
 returns c =
-    let i = c .before .before .before .loop .inv in
-    record { found = λ m. underway-rests (i .0 m) (sym (hand-rests (i .1)) ∙ sym (c .before .resting .ensures) ∙ c .if1 .taken) }
-
-make-move-requires : tie.Need-make-move-requires Inv-loop μ-loop
-make-move-requires c κs =
-    let s = c .before .before .before .before .before .before .before .before .before .before in
-    let i = c .before .before .before .before .loop .inv in
-    (underway-movable (i .0 (s .pre)) (sym (hand-rests (i .1)) ∙ sym (c .before .before .resting .ensures) ∙ c .before .if1 .left), i .1)
-
-add-made : tie.Need-add-made Inv-loop μ-loop
-add-made c = omega (arith, c .before .before .before .before .before .before .loop-test .taken)
-
-loop-less : tie.Need-loop-less Inv-loop μ-loop
-loop-less c = omega (arith, c .before .before .before .before .before .before .loop-test .taken)
-
-loop-again : tie.Need-loop-again Inv-loop μ-loop
-loop-again c =
-    let i = c .before .before .before .before .before .before .before .loop .inv in
-    let goes-on = sym (hand-rests (i .1)) ∙ sym (c .before .before .before .before .before .resting .ensures) ∙ c .before .before .before .before .if1 .left in
-    let e = c .before .before .make-move .ensures in (
-      (λ m. underway-more (i .0 m) (c .before .before .before .before .before .before .loop-test .taken) goes-on (e .0)),
-      e .1,
-      c .before .before .make-move .kept .1 .1 .0 ∙ i .2,
-    )
-
-same-length-2 : tie.Need-same-length-2 Inv-loop μ-loop
-same-length-2 c = c .before .loop .inv .2
-
-returns-2 : tie.Need-returns-2 Inv-loop μ-loop
-returns-2 c = record { found = λ m. underway-spent (c .before .loop .inv .0 m) (c .loop-test .left) }
+    let s = c .before .before .before .before .before .before .before .before .before .before .before .before .before .before .before in
+    let a = c .before .before .before .before .before .before .before .before .before .before .hand-of .ensures in
+    let listed = underway-listed (underway (s .pre) (s .args .budget)) in
+    let words = c .before .before .before .before .before .before .before .before .before .before .before .before .slice-known .given in
+    let k = holding a (listed .0) (listed .1) (omega (arith, words (tableAt (s .args .c) 4))) (omega (arith, words 4)) in
+    let same = settled-now k (omega (arith, words 2)) a in
+    rw (c .before .before .before .before .settle .ensures) (rw same at (c .before .before .before .before .before .before .before .before .moves-until .ensures .0))
 
 pub make-moves-spec : {M : Type 1} → statement M
 make-moves-spec =
     tie.close
     (tie.spec
-    Inv-loop
-    μ-loop
     hand-of-requires
-    loop-holds
-    resting-requires
+    moves-until-requires
+    settle-requires
+    sub-result
     same-length
-    returns
-    make-move-requires
-    add-made
-    loop-less
-    loop-again
-    same-length-2
-    returns-2)
+    returns)

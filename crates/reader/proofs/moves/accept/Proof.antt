@@ -1,62 +1,54 @@
--- `moves::accept` meets its contract: the slot put to 0 and the `end` stored are `endedWords`.
+-- `moves::accept` meets its contract: the slot put to 0, and the `end` at hand, are `endedWords`.
 use native.Mathlib.Omega.{arith}
-use lib.ListN.{length-set}
 use mathlib.Core.Path.{refl}
-use Rattle.moving.specs.Hands.{hand-accepted}
+use Rattle.moving.specs.Settled.{accept-fits, settled-accepted}
 use Rattle.reader.proofs.moves.accept.Statement.{statement}
 use Rattle.reader.proofs.moves.accept.Tie as tie
 
-sub-end : tie.Need-sub-end
-sub-end c = omega (arith, c .before .before .pre .0 .some, c .before .before .pre .1 .end)
+sub-hand : tie.Need-sub-hand
+sub-hand c =
+    let s = c .before .before in
+    let fits = accept-fits (s .pre .1) (s .pre .0) in
+    omega (arith, s .pre .1 .base, fits)
 
-cast-slot-at : tie.Need-cast-slot-at
-cast-slot-at c = omega arith
+cast-zero : tie.Need-cast-zero
+cast-zero c = omega arith
 
-slot-at-requires : tie.Need-slot-at-requires
-slot-at-requires c κs = omega (arith, c .before .before .before .pre .0 .some, c .before .before .before .pre .0 .room, c .before .before .before .pre .1 .end)
+mul-zero : tie.Need-mul-zero
+mul-zero c =
+    let s = c .before .before .before .before in
+    let fits = accept-fits (s .pre .1) (s .pre .0) in
+    omega (arith, s .pre .1 .base, fits)
+
+add-zero : tie.Need-add-zero
+add-zero c =
+    let s = c .before .before .before .before .before in
+    let fits = accept-fits (s .pre .1) (s .pre .0) in
+    omega (arith, s .pre .1 .base, fits)
 
 zero-requires : tie.Need-zero-requires
 zero-requires c κs =
     let s = c .before .before .before .before .before in
-    omega (arith, c .before .slot-at .ensures, s .pre .0 .some, s .pre .0 .room, s .pre .1 .end)
-
-mul-area : tie.Need-mul-area
-mul-area c = omega arith
-
-add-area : tie.Need-add-area
-add-area c = omega arith
-
-add-area-2 : tie.Need-add-area-2
-add-area-2 c = omega arith
-
-mul-area-2 : tie.Need-mul-area-2
-mul-area-2 c = omega arith
-
-slice-write-area : tie.Need-slice-write-area
-slice-write-area c =
-    let s = c .before .before .before .before .before .before .before .before in
-    omega (arith, c .before .before .zero .kept .0, s .pre .0 .chunk, s .pre .0 .room)
+    let fits = accept-fits (s .pre .1) (s .pre .0) in
+    omega (arith, s .pre .1 .base, fits)
 
 same-length : tie.Need-same-length
-same-length c = simp length-set (c .before .before .zero .kept .0)
+same-length c = c .before .before .zero .kept .0
 
 returns : tie.Need-returns
 returns c =
     let s = c .before .before .before .before .before .before .before .before in
-    let k = hand-accepted _ _ _ (s .pre) in rw (c .before .before .zero .ensures, c .before .before .before .before .slot-at .ensures) (k .0, k .1, refl)
+    let k = rw (← s .pre .1 .base) at (settled-accepted (s .pre .1) (s .pre .0)) in
+    rw (c .before .before .zero .ensures) (k .0, k .1, refl)
 
 pub accept-spec : {M : Type 1} → statement M
 accept-spec =
     tie.close
     (tie.spec
-    sub-end
-    cast-slot-at
-    slot-at-requires
+    sub-hand
+    cast-zero
+    mul-zero
+    add-zero
     zero-requires
-    mul-area
-    add-area
-    add-area-2
-    mul-area-2
-    slice-write-area
     same-length
     returns)

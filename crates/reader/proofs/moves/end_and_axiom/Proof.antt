@@ -9,7 +9,7 @@ returns : tie.Need-returns
 returns c = record { found = λ stack h table ax. not-empty table stack h (c .if1 .taken) }
 
 block-start-requires : tie.Need-block-start-requires
-block-start-requires c κs = let p = c .before .before .pre in held-ends (p .stack) (p .holds) (c .if1 .left)
+block-start-requires c κs = let p = c .before .before .pre in (p .0, held-ends (p .1 .stack) (p .1 .holds) (c .if1 .left))
 
 returns-2 : tie.Need-returns-2
 returns-2 c = record { found = λ stack h table ax. not-one table (c .before .before .if1 .left) stack h (rw (c .before .block-start .ensures) at (c .if2 .taken)) }
@@ -17,14 +17,14 @@ returns-2 c = record { found = λ stack h table ax. not-one table (c .before .be
 block-start-requires-2 : tie.Need-block-start-requires-2
 block-start-requires-2 c κs =
     let p = c .before .before .before .before .pre in
-    let u = held-under (p .stack) (p .holds) (c .before .before .if1 .left) in
-    rw (c .before .block-start .ensures) (held-ends (u .stack) (u .holds) (rw (c .before .block-start .ensures) at (c .if2 .left)))
+    let u = held-under (p .1 .stack) (p .1 .holds) (c .before .before .if1 .left) in
+    (p .0, rw (c .before .block-start .ensures) (held-ends (u .stack) (u .holds) (rw (c .before .block-start .ensures) at (c .if2 .left))))
 
 slot-word-requires : tie.Need-slot-word-requires
 slot-word-requires c κs =
     let p = c .before .before .before .before .before .pre in
-    let e = held-ends (p .stack) (p .holds) (c .before .before .before .if1 .left) in
-    omega (arith, c .before .before .block-start .ensures, e .some, e .fits, e .within)
+    let e = held-ends (p .1 .stack) (p .1 .holds) (c .before .before .before .if1 .left) in
+    (p .0, omega (arith, c .before .before .block-start .ensures, e .some, e .fits, e .within))
 
 cast-word : tie.Need-cast-word
 cast-word c = omega arith
@@ -32,8 +32,8 @@ cast-word c = omega arith
 slot-word-requires-2 : tie.Need-slot-word-requires-2
 slot-word-requires-2 c κs =
     let p = c .before .before .before .before .before .before .pre in
-    let e = held-ends (p .stack) (p .holds) (c .before .before .before .before .if1 .left) in
-    omega (arith, c .before .before .before .block-start .ensures, c .before .block-start2 .ensures, e .some, e .fits, e .within)
+    let e = held-ends (p .1 .stack) (p .1 .holds) (c .before .before .before .before .if1 .left) in
+    (p .0, omega (arith, c .before .before .before .block-start .ensures, c .before .block-start2 .ensures, e .some, e .fits, e .within))
 
 add-result : tie.Need-add-result
 add-result c = omega arith

@@ -32,15 +32,28 @@ cast-t11 c = omega (arith, c .shared-slice-known2 .given 4)
 moves-of-requires : tie.Need-moves-of-requires
 moves-of-requires c κs = search needs
 
+shared-slice-read-t14 : tie.Need-shared-slice-read-t14
+shared-slice-read-t14 c = omega arith
+
+cast-t15 : tie.Need-cast-t15
+cast-t15 c = omega (arith, c .shared-slice-known3 .given 1)
+
+mul-t16 : tie.Need-mul-t16
+mul-t16 c = omega (arith, c .shared-slice-known3 .given 1)
+
+add-t17 : tie.Need-add-t17
+add-t17 c = omega (arith, c .shared-slice-known3 .given 1)
+
 returns : tie.Need-returns
 returns c = record {
-  status = c .before .before .before .before .before .before .row-word .ensures;
-  from = c .before .before .before .before .before .row-word2 .ensures;
-  head = c .before .before .before .before .row-word3 .ensures;
-  end = c .before .before .before .row-word4 .ensures;
-  marks = c .before .before .row-word5 .ensures;
+  status = c .before .before .before .before .before .before .before .row-word .ensures;
+  from = c .before .before .before .before .before .before .row-word2 .ensures;
+  head = c .before .before .before .before .before .row-word3 .ensures;
+  end = c .before .before .before .before .row-word4 .ensures;
+  marks = c .before .before .before .row-word5 .ensures;
   reductions = refl;
-  moves = c .moves-of .ensures;
+  moves = c .before .moves-of .ensures;
+  base = refl;
 }
 
 pub hand-of-spec : {M : Type 1} → statement M
@@ -56,4 +69,8 @@ hand-of-spec =
     shared-slice-read-t10
     cast-t11
     moves-of-requires
+    shared-slice-read-t14
+    cast-t15
+    mul-t16
+    add-t17
     returns)

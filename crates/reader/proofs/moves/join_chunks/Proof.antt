@@ -14,27 +14,41 @@ use Rattle.reader.proofs.moves.join_chunks.Tie as tie
 hand-of-requires : tie.Need-hand-of-requires
 hand-of-requires c κs = (c .before .before .pre .right, omega (arith, c .before .before .pre .room))
 
-cast-slot-at : tie.Need-cast-slot-at
-cast-slot-at c = omega arith
+cast-slot : tie.Need-cast-slot
+cast-slot c = omega arith
 
-slot-at-requires : tie.Need-slot-at-requires
-slot-at-requires c κs = omega (arith, c .before .hand-of .ensures .from, c .before .before .before .before .pre .from, c .before .before .before .before .pre .room)
+mul-slot : tie.Need-mul-slot
+mul-slot c =
+    let p = c .before .before .before .pre in
+    let h = c .hand-of .ensures in
+    omega (arith, h .base, h .from, h .head, p .from, p .room)
+
+add-slot : tie.Need-add-slot
+add-slot c =
+    let p = c .before .before .before .before .pre in
+    let h = c .before .hand-of .ensures in
+    omega (arith, h .base, h .from, h .head, p .from, p .room)
 
 add-unmark : tie.Need-add-unmark
-add-unmark c = omega arith
+add-unmark c =
+    let p = c .before .before .before .before .before .pre in
+    let h = c .before .before .hand-of .ensures in
+    omega (arith, h .base, h .from, h .head, p .from, p .room)
 
 sub-unmark : tie.Need-sub-unmark
 sub-unmark c =
-    let s = c .before .before .before .before .before .before in
-    omega (arith, c .before .before .before .hand-of .ensures .from, c .before .before .before .hand-of .ensures .head, s .pre .from)
+    let p = c .before .before .before .before .before .pre in
+    let h = c .before .before .hand-of .ensures in
+    omega (arith, h .base, h .from, h .head, p .from, p .room)
 
 cast-unmark : tie.Need-cast-unmark
 cast-unmark c = omega arith
 
 unmark-requires : tie.Need-unmark-requires
 unmark-requires c κs =
-    let s = c .before .before .before .before .before .before in
-    omega (arith, c .before .slot-at .ensures, c .before .before .before .hand-of .ensures .from, c .before .before .before .hand-of .ensures .head, s .pre .from, s .pre .room)
+    let p = c .before .before .before .before .before .pre in
+    let h = c .before .before .hand-of .ensures in
+    omega (arith, h .base, h .from, h .head, p .from, p .room)
 
 mul-area : tie.Need-mul-area
 mul-area c = omega arith
@@ -50,8 +64,8 @@ mul-area-2 c = omega arith
 
 slice-write-area : tie.Need-slice-write-area
 slice-write-area c =
-    let s = c .before .before .before .before .before .before .before .before .before in
-    omega (arith, c .before .before .unmark .kept .0, s .pre .left, s .pre .room)
+    let p = c .before .before .before .before .before .before .before .before .pre in
+    omega (arith, c .before .before .unmark .kept .0, p .left, p .room)
 
 mul-zero : tie.Need-mul-zero
 mul-zero c = omega arith
@@ -61,54 +75,42 @@ add-zero c = omega arith
 
 zero-requires : tie.Need-zero-requires
 zero-requires c κs =
-    let s = c .before .before .before .before .before .before .before .before .before .before in
-    simp length-set (omega (arith, c .before .before .before .unmark .kept .0, s .pre .right, s .pre .room))
+    let p = c .before .before .before .before .before .before .before .before .before .pre in
+    simp length-set (omega (arith, c .before .before .before .unmark .kept .0, p .right, p .room))
 
 tick-requires : tie.Need-tick-requires
 tick-requires c κs =
-    let s = c .before .before .before .before .before .before .before .before .before .before .before .before .before .before in
-    let p = s .pre in
-    let h = c .before .before .before .before .before .before .before .before .before .before .before .hand-of .ensures in
-    rw (
-      c .before .before .before .zero .ensures,
-      c .before .before .before .before .before .before .before .unmark .ensures,
-      c .before .before .before .before .before .before .before .before .before .slot-at .ensures,
-      h .from,
-      h .head,
-      h .end,
-    ) (subst (λ (l : List ℕ). Ticks l (c .before .before .before .before .before .before .before .before .before .before .before .hand-of .result .moves))
-    (sym (one-zeroed _ _ _ p)) (one-ready _ _ _ _ (hand-counted h (omega (arith, p .room)) (omega (
-      arith,
-      c .before .before .before .before .before .before .before .before .before .before .before .before .before .slice-known .given 2,
-    )) (p .few))))
+    let read = c .before .before .before .before .before .before .before .before .before .before in
+    let words = read .before .before .slice-known .given in
+    let p = read .before .before .before .pre in
+    let h = read .hand-of .ensures in
+    rw (c .before .before .before .zero .ensures, c .before .before .before .before .before .before .before .unmark .ensures, h .base, h .from, h .head, h .end)
+    (subst (λ (l : List ℕ). Ticks l (read .hand-of .result .moves)) (sym (one-zeroed _ _ _ p))
+    (one-ready _ _ _ _ (hand-counted h (omega (arith, p .room)) (omega (arith, words 2)) (p .few))))
 
 same-length : tie.Need-same-length
 same-length c =
-    c .before .before .tick .kept .0 ∙ c .before .before .before .before .before .before .zero .kept .0
-    ∙ simp length-set (c .before .before .before .before .before .before .before .before .before .before .unmark .kept .0)
+    let zeroed = c .before .before .before .before .before .before in
+    c .before .before .tick .kept .0 ∙ zeroed .zero .kept .0 ∙ simp length-set (zeroed .before .before .before .before .unmark .kept .0)
 
 returns : tie.Need-returns
 unfolding joinWords
 returns c =
-    let s = c .before .before .before .before .before .before .before .before .before .before .before .before .before .before .before .before .before in
-    let h = c .before .before .before .before .before .before .before .before .before .before .before .before .before .before .hand-of .ensures in
-    rw (
-      c .before .before .tick .ensures .1,
-      c .before .before .before .before .before .before .zero .ensures,
-      c .before .before .before .before .before .before .before .before .before .before .unmark .ensures,
-      c .before .before .before .before .before .before .before .before .before .before .before .before .slot-at .ensures,
-      h .from,
-      h .head,
-      h .end,
-    ) (ap tickWords (one-zeroed _ _ _ (s .pre)))
+    let zeroed = c .before .before .before .before .before .before in
+    let read = zeroed .before .before .before .before .before .before .before in
+    let p = read .before .before .before .pre in
+    let h = read .hand-of .ensures in
+    rw (c .before .before .tick .ensures, zeroed .zero .ensures, zeroed .before .before .before .before .unmark .ensures, h .base, h .from, h .head, h .end)
+    (ap tickWords (one-zeroed _ _ _ p))
 
 pub join-chunks-spec : {M : Type 1} → statement M
 join-chunks-spec =
     tie.close
     (tie.spec
     hand-of-requires
-    cast-slot-at
-    slot-at-requires
+    cast-slot
+    mul-slot
+    add-slot
     add-unmark
     sub-unmark
     cast-unmark

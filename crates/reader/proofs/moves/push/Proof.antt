@@ -1,86 +1,90 @@
--- `moves::push` meets its contract: the three stores are `putWords`.
+-- `moves::push` meets its contract: the mark stored, and the boundary and the marks at hand, are `putWords`.
 use native.Mathlib.Omega.{arith}
 use lib.ListN.{length-set}
 use mathlib.Core.Path.{refl}
-use Rattle.moving.specs.Hands.{hand-pushed}
+use Rattle.moving.specs.Settled.{push-fits, settled-pushed}
 use Rattle.reader.proofs.moves.push.Statement.{statement}
 use Rattle.reader.proofs.moves.push.Tie as tie
 
-mul-line : tie.Need-mul-line
-mul-line c = omega arith
+cast-slot : tie.Need-cast-slot
+cast-slot c = omega arith
 
-add-line : tie.Need-add-line
-add-line c = omega arith
+mul-slot : tie.Need-mul-slot
+mul-slot c =
+    let s = c .before in
+    let fits = push-fits (s .pre .1) (s .args .mark) (s .pre .0) in
+    omega (arith, s .pre .1 .base, fits)
 
-cast-slot-at : tie.Need-cast-slot-at
-cast-slot-at c = omega arith
-
-slot-at-requires : tie.Need-slot-at-requires
-slot-at-requires c κs = omega (arith, c .before .before .pre .0 .slot, c .before .before .pre .1 .head)
+add-slot : tie.Need-add-slot
+add-slot c =
+    let s = c .before .before in
+    let fits = push-fits (s .pre .1) (s .args .mark) (s .pre .0) in
+    omega (arith, s .pre .1 .base, fits)
 
 add-hand : tie.Need-add-hand
-add-hand c = omega arith
+add-hand c =
+    let s = c .before .before in
+    let fits = push-fits (s .pre .1) (s .args .mark) (s .pre .0) in
+    omega (arith, s .pre .1 .base, fits)
 
 mul-hand : tie.Need-mul-hand
-mul-hand c = omega arith
+mul-hand c =
+    let s = c .before .before in
+    let fits = push-fits (s .pre .1) (s .args .mark) (s .pre .0) in
+    omega (arith, s .pre .1 .base, fits)
 
 slice-read-hand : tie.Need-slice-read-hand
-slice-read-hand c = omega (arith, c .before .slot-at .ensures, c .before .before .before .before .pre .0 .slot, c .before .before .before .before .pre .1 .head)
+slice-read-hand c =
+    let s = c .before .before .before in
+    let fits = push-fits (s .pre .1) (s .args .mark) (s .pre .0) in
+    omega (arith, s .pre .1 .base, fits)
 
 add-hand-2 : tie.Need-add-hand-2
-add-hand-2 c = omega (arith, rw (← c .before .before .before .before .pre .1 .head, ← c .before .slot-at .ensures) at (c .before .before .before .before .pre .0 .head))
+add-hand-2 c =
+    let s = c .before .before .before .before in
+    let fits = rw (← s .pre .1 .base) at (push-fits (s .pre .1) (s .args .mark) (s .pre .0) .1) in
+    omega (arith, fits)
 
 add-hand-3 : tie.Need-add-hand-3
-add-hand-3 c = omega (arith, c .before .before .before .before .before .pre .0 .marks, c .before .before .before .before .before .pre .1 .marks)
+add-hand-3 c =
+    let s = c .before .before .before .before .before in
+    let fits = push-fits (s .pre .1) (s .args .mark) (s .pre .0) in
+    omega (arith, s .pre .1 .base, fits)
 
 add-area : tie.Need-add-area
-add-area c = omega arith
+add-area c =
+    let s = c .before .before .before .before .before in
+    let fits = push-fits (s .pre .1) (s .args .mark) (s .pre .0) in
+    omega (arith, s .pre .1 .base, fits)
 
 mul-area : tie.Need-mul-area
-mul-area c = omega arith
+mul-area c =
+    let s = c .before .before .before .before .before in
+    let fits = push-fits (s .pre .1) (s .args .mark) (s .pre .0) in
+    omega (arith, s .pre .1 .base, fits)
 
 slice-write-area : tie.Need-slice-write-area
 slice-write-area c =
     let s = c .before .before .before .before .before in
-    omega (arith, c .before .before .slot-at .ensures, s .pre .0 .slot, s .pre .1 .head)
-
-add-area-2 : tie.Need-add-area-2
-add-area-2 c = omega arith
-
-mul-area-2 : tie.Need-mul-area-2
-mul-area-2 c = omega arith
-
-slice-write-area-2 : tie.Need-slice-write-area-2
-slice-write-area-2 c = simp length-set (omega (arith, c .before .before .before .before .before .pre .0 .chunk, c .before .before .before .before .before .pre .0 .slot))
-
-cast-area : tie.Need-cast-area
-cast-area c = omega (arith, c .before .before .before .before .before .before .pre .0 .marks, c .before .before .before .before .before .before .pre .1 .marks)
-
-add-area-3 : tie.Need-add-area-3
-add-area-3 c = omega arith
-
-mul-area-3 : tie.Need-mul-area-3
-mul-area-3 c = omega arith
-
-slice-write-area-3 : tie.Need-slice-write-area-3
-slice-write-area-3 c =
-    let s = c .before .before .before .before .before .before in
-    simp length-set (omega (arith, s .pre .0 .chunk, s .pre .0 .slot))
+    let fits = push-fits (s .pre .1) (s .args .mark) (s .pre .0) in
+    omega (arith, s .pre .1 .base, fits)
 
 same-length : tie.Need-same-length
 same-length c = simp length-set
 
 returns : tie.Need-returns
-returns c = let k = hand-pushed _ _ _ _ (c .before .before .before .before .before .before .pre) in rw (c .before .before .before .slot-at .ensures) (k .0, k .1, refl)
+returns c =
+    let s = c .before .before .before .before .before in
+    let k = rw (← s .pre .1 .base) at (settled-pushed (s .pre .1) (s .args .mark) (s .pre .0)) in
+    (k .0, k .1, refl)
 
 pub push-spec : {M : Type 1} → statement M
 push-spec =
     tie.close
     (tie.spec
-    mul-line
-    add-line
-    cast-slot-at
-    slot-at-requires
+    cast-slot
+    mul-slot
+    add-slot
     add-hand
     mul-hand
     slice-read-hand
@@ -89,12 +93,5 @@ push-spec =
     add-area
     mul-area
     slice-write-area
-    add-area-2
-    mul-area-2
-    slice-write-area-2
-    cast-area
-    add-area-3
-    mul-area-3
-    slice-write-area-3
     same-length
     returns)

@@ -27,7 +27,7 @@ same-length c = search needs
 
 returns : tie.Need-returns
 unfolding tickWords
-returns c = rw (c .pre .count) (refl, refl)
+returns c = rw (c .pre .count) refl
 
 pub tick-spec : {M : Type 1} → statement M
 tick-spec =

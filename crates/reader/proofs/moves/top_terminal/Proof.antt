@@ -10,22 +10,24 @@ use Rattle.reader.proofs.moves.top_terminal.Statement.{statement}
 use Rattle.reader.proofs.moves.top_terminal.Tie as tie
 
 abbrev Inv-loop : tie.InvT-loop
-Inv-loop area from head at₀ at = (stack : List (Entry Span)) → Holds area from head stack → Down _ topTerminal area from at stack
+Inv-loop area base from head at₀ at = (stack : List (Entry Span)) → Holds area from head stack → Down _ topTerminal area from at stack
 
 abbrev μ-loop : tie.MeasureT-loop
-μ-loop area from head at₀ at = at
+μ-loop area base from head at₀ at = at
 
 loop-holds : tie.Need-loop-holds Inv-loop μ-loop
 loop-holds c = λ stack h. down-begins _ topTerminal h
 
 block-start-requires : tie.Need-block-start-requires Inv-loop μ-loop
-block-start-requires c κs = down-ends _ topTerminal (c .before .loop .inv (c .before .before .before .pre .stack) (c .before .before .before .pre .holds)) (c .loop-test .taken)
+block-start-requires c κs =
+    let p = c .before .before .before .pre in
+    (p .0, down-ends _ topTerminal (c .before .loop .inv (p .1 .stack) (p .1 .holds)) (c .loop-test .taken))
 
 slot-word-requires : tie.Need-slot-word-requires Inv-loop μ-loop
 slot-word-requires c κs =
-    let s = c .before .before .before .before in
-    let e = down-ends _ topTerminal (c .before .before .loop .inv (s .pre .stack) (s .pre .holds)) (c .before .loop-test .taken) in
-    omega (arith, c .block-start .ensures, e .some, e .fits, e .within)
+    let p = c .before .before .before .before .pre in
+    let e = down-ends _ topTerminal (c .before .before .loop .inv (p .1 .stack) (p .1 .holds)) (c .before .loop-test .taken) in
+    (p .0, omega (arith, c .block-start .ensures, e .some, e .fits, e .within))
 
 returns : tie.Need-returns Inv-loop μ-loop
 returns c =
@@ -36,8 +38,8 @@ returns c =
 
 loop-less : tie.Need-loop-less Inv-loop μ-loop
 loop-less c =
-    let s = c .before .before .before .before .before .before in
-    let e = down-ends _ topTerminal (c .before .before .before .before .loop .inv (s .pre .stack) (s .pre .holds)) (c .before .before .before .loop-test .taken) in
+    let p = c .before .before .before .before .before .before .pre in
+    let e = down-ends _ topTerminal (c .before .before .before .before .loop .inv (p .1 .stack) (p .1 .holds)) (c .before .before .before .loop-test .taken) in
     omega (arith, c .before .before .block-start .ensures, e .some, e .fits, e .within)
 
 loop-again : tie.Need-loop-again Inv-loop μ-loop
