@@ -1,7 +1,7 @@
 -- What the proofs of the shape check's functions share: each test one step on, and the bounds that its counts keep.
 -- Rests on specs' Shape and ShapeCode.
 --
--- Main statements: sized-of; shape-left, shape-kept; scan-more, side-few; blank-more; countable, line-within.
+-- Main statements: sized-of; shape-left, shape-kept; scan-more, side-few; blank-next, blank-done; countable, line-within.
 use Prim.Native.Nat.{ℕ, zero, suc, _+_, _*_, _-_, _<_, _≤_, _^_}
 use mir.Syntax.{w16, w64}
 use mir.Val.{Fits}
@@ -149,10 +149,19 @@ side-few t n area from to =
 
 -- ---- words that are 0
 
-pub blank-more : (k i : ℕ) (xs : List ℕ) → blank (suc k) (drop i xs) ≡ pick (eqb (getD xs i 0) 0) (blank k (drop (i + 1) xs)) false
+blank-more : (k i : ℕ) (xs : List ℕ) → blank (suc k) (drop i xs) ≡ pick (eqb (getD xs i 0) 0) (blank k (drop (i + 1) xs)) false
 blank-more k i xs =
     let z : i + 0 ≡ i = omega arith in
     rw (drop-drop 1 i xs, getD-drop i xs 0 0, z)
+
+-- one word more looked at, after words that are all 0 or not (`zero`)
+pub blank-next : (zero : Bool) (k i : ℕ) (xs : List ℕ) → pick (zero && eqb (getD xs i 0) 0) (blank k (drop (i + 1) xs)) false ≡ pick zero (blank (suc k) (drop i xs)) false
+blank-next true k i xs = sym (blank-more k i xs)
+blank-next false k i xs = refl
+
+pub blank-done : (zero : Bool) (xs : List ℕ) → zero ≡ pick zero (blank 0 xs) false
+blank-done true xs = refl
+blank-done false xs = refl
 
 -- ---- a row of the table more
 

@@ -395,19 +395,18 @@ fn rule_j(area: &[u16], w: Walk) -> bool
     low + 65536 * high + potential(w) <= times(tokens, count) + tokens + 4 * count - 2
 }
 
-// The words from `from` up to `to` are 0.
+// The words from `from` up to `to` are 0: all of them are looked at, with no exit before the end.
 fn blank(area: &[u16], from: usize, to: usize) -> bool
     requires { ⌜ to ≤ length (now area) ⌝ }
     ensures { λ r. ⌜ r ≡ blank (to - from) (drop from (now (area .entry))) ⌝ }
 {
+    let mut zero = true;
     let mut i = from;
     while i < to {
-        if area[i] != 0 {
-            return false;
-        }
+        zero = zero & (area[i] == 0);
         i += 1;
     }
-    true
+    zero
 }
 
 // (k) Slots past the last end and unused reductions are zeros.

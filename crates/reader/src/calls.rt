@@ -64,7 +64,7 @@ fn takes(words: &[u16], matrix: &[u8], area: &[u16], c: usize, hand: Hand) -> Mo
     }
     let head = hand.head as usize;
     let base = hand.base;
-    let handle = moves::find_mark(area, base, hand.from as usize, head);
+    let handle = moves::find_handle(area, base, hand.from as usize, head);
     let start = handle.start;
     if let Matched::Rule(r) = moves::match_rule(words, area, base, start, head, handle.count) {
         return Move::Reduce(start as u16, left_word(words, r), r);

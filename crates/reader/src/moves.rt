@@ -252,7 +252,7 @@ pub(crate) fn top_terminal(area: &[u16], base: usize, from: usize, head: usize) 
 
 // The handle of the stack on the slots from `from` up to `head`: it starts with the topmost mark, or with the nonterminal just below it; at
 // `from` where there is no mark.
-pub(crate) fn find_mark(area: &[u16], base: usize, from: usize, head: usize) -> Handle
+pub(crate) fn find_handle(area: &[u16], base: usize, from: usize, head: usize) -> Handle
     requires { ⌜ (base ≡ slotsAt (now area)) × Stacked (now area) from head ⌝ }
     ensures { λ r. ⌜ HandleIs (now (area .entry)) from head (r .start) (r .count) ⌝ }
 {

@@ -21,11 +21,11 @@ returns c =
 cast-head : tie.Need-cast-head
 cast-head c = omega arith
 
-cast-find-mark : tie.Need-cast-find-mark
-cast-find-mark c = omega arith
+cast-find-handle : tie.Need-cast-find-handle
+cast-find-handle c = omega arith
 
-find-mark-requires : tie.Need-find-mark-requires
-find-mark-requires c κs =
+find-handle-requires : tie.Need-find-handle-requires
+find-handle-requires c κs =
     let s = c .before .before .before .before .before .before .before in
     let k = s .pre .1 in
     hand-stack k (settles k) (can-read (s .pre .0 .compared .facing .movable))
@@ -35,7 +35,7 @@ match-rule-requires c κs =
     let s = c .before .before .before .before .before .before .before .before in
     let k = s .pre .1 in
     let u = hand-taking k (settles k) (s .pre .0) (c .before .before .before .if1 .left) in
-    let handle = of-handle k (settles k) (c .find-mark .ensures) in
+    let handle = of-handle k (settles k) (c .find-handle .ensures) in
     let m = u .takes-over .compared .facing .movable in
     let start = handle .starts in
     let r = hand-match k (settles k) _ _ (handle-there u _ start) (can-read m .stacked .room) (starts-below u _ start) (handle-counts u _ start _ handle) in
@@ -49,7 +49,7 @@ cast-t14 c =
     let s = c .before .before .before .before .before .before .before .before .before .before .before .before in
     let k = s .pre .1 in
     let u = hand-taking k (settles k) (s .pre .0) (c .before .before .before .before .before .before .before .if1 .left) in
-    let handle = of-handle k (settles k) (c .before .before .before .before .find-mark .ensures) in
+    let handle = of-handle k (settles k) (c .before .before .before .before .find-handle .ensures) in
     omega (arith, starts-below u _ (handle .starts), settles k .hand .head, c .before .before .before .before .before .before .struct-known2 .given)
 
 left-word-requires : tie.Need-left-word-requires
@@ -57,7 +57,7 @@ left-word-requires c κs =
     let s = c .before .before .before .before .before .before .before .before .before .before .before .before in
     let k = s .pre .1 in
     let u = hand-taking k (settles k) (s .pre .0) (c .before .before .before .before .before .before .before .if1 .left) in
-    let handle = of-handle k (settles k) (c .before .before .before .before .find-mark .ensures) in
+    let handle = of-handle k (settles k) (c .before .before .before .before .find-handle .ensures) in
     has-left u _ (handle .starts) _ (of-rule k (settles k) _ _ (rw (c .before .r .given .1) at (c .before .before .before .match-rule .ensures)))
 
 returns-2 : tie.Need-returns-2
@@ -65,7 +65,7 @@ returns-2 c =
     let s = c .before .before .before .before .before .before .before .before .before .before .before .before .before in
     let k = s .pre .1 in
     let u = hand-taking k (settles k) (s .pre .0) (c .before .before .before .before .before .before .before .before .if1 .left) in
-    let handle = of-handle k (settles k) (c .before .before .before .before .before .find-mark .ensures) in
+    let handle = of-handle k (settles k) (c .before .before .before .before .before .find-handle .ensures) in
     rw (c .left-word .ensures)
     (reduces u _ (handle .starts) _ (of-rule k (settles k) _ _ (rw (c .before .before .r .given .1) at (c .before .before .before .before .match-rule .ensures))))
 
@@ -77,7 +77,7 @@ returns-3 c =
     let s = c .before .before .before .before .before .before .before .before .before .before .before in
     let k = s .pre .1 in
     let u = hand-taking k (settles k) (s .pre .0) (c .before .before .before .before .before .before .if1 .left) in
-    let handle = of-handle k (settles k) (c .before .before .before .find-mark .ensures) in
+    let handle = of-handle k (settles k) (c .before .before .before .find-handle .ensures) in
     record {
       possible = can-stick (u .takes-over .compared .facing .movable);
       leaves = stuck-rule u _ (handle .starts) (of-rule k (settles k) _ _ (rw (c .enum-told .given .1) at (c .before .before .match-rule .ensures)));
@@ -89,8 +89,8 @@ takes-spec =
     (tie.spec
     returns
     cast-head
-    cast-find-mark
-    find-mark-requires
+    cast-find-handle
+    find-handle-requires
     match-rule-requires
     enum-known-r
     cast-t14

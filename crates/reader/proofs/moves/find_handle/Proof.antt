@@ -1,4 +1,4 @@
--- `moves::find_mark` meets its contract: the loop's invariant: whatever stack stands there, its topmost mark is in what is left, and what is left
+-- `moves::find_handle` meets its contract: the loop's invariant: whatever stack stands there, its topmost mark is in what is left, and what is left
 -- and the symbols counted are together its symbols (`Counted`); there are no more of these than slots passed. The measure is `at`.
 use Rattle.moving.specs.Walks.{Counted, counted-begins, counted-none, down-none, down-ends, down-under, below-start, below-here, below-ends}
 use Rattle.moving.specs.Walks.{mark-found, mark-counted, mark-more}
@@ -8,8 +8,8 @@ use Rattle.language.specs.Trees.{Span}
 use Prim.Native.Nat.{_+_, _≤_}
 use mathlib.Core.List.{List}
 use native.Mathlib.Omega.{arith}
-use Rattle.reader.proofs.moves.find_mark.Statement.{statement}
-use Rattle.reader.proofs.moves.find_mark.Tie as tie
+use Rattle.reader.proofs.moves.find_handle.Statement.{statement}
+use Rattle.reader.proofs.moves.find_handle.Tie as tie
 
 abbrev Inv-loop : tie.InvT-loop
 Inv-loop area base from head at₀ count₀ at count =
@@ -110,8 +110,8 @@ returns-3 c =
       counted = λ stack h. counted-none (l .inv .1 stack h) (c .loop-test .left);
     }
 
-pub find-mark-spec : {M : Type 1} → statement M
-find-mark-spec =
+pub find-handle-spec : {M : Type 1} → statement M
+find-handle-spec =
     tie.close
     (tie.spec
     Inv-loop
