@@ -28,7 +28,7 @@ use Rattle.shape.specs.Tiling.{end-is-last}
 use Rattle.moving.specs.MoveWords.{endOf, endedWords, acceptWords, Acceptable}
 use Rattle.moving.specs.KeptAround.{symbols-around, nothing-live}
 use Rattle.moving.specs.AroundChunk.{slots-count, finerParts, around-finer, tick-law, gone-rows, gone-slots, gone-total, listed-words}
-use Rattle.moving.specs.AroundChunk.{read-words, end-word, number-within, few-moves, slots-within, ends-within}
+use Rattle.moving.specs.AroundChunk.{read-words, head-word, end-word, number-within, few-moves, slots-within, ends-within}
 
 module _ (n : ℕ) (earlier : List (Option (Chunk Span))) (stack : List (Entry Span)) (v : Span) (status : Status) (later : List (Option (Chunk Span)))
     (gone : AllGone later) (reductions : List (Reduction Span)) (moves : ℕ) (rest : List ℕ) (fits : total earlier + (stackSize stack + 1) ≤ n + 2) where
@@ -128,6 +128,7 @@ accept-ready {n = n} {s = s} k rest {c} l x unread next =
       few = few-moves k rest;
       chunk = rw (chunks-at n s rest) (number-within n s rest l);
       some = omega arith;
+      unread = omega (arith, head-word n s rest l);
       room = omega (arith, slots-within k rest);
     }
 

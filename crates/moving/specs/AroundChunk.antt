@@ -5,11 +5,11 @@
 --
 -- Main definitions: partsAround, finerParts.
 -- Main statements: around, around-finer, tick-law; status-word, from-word, head-word, end-word, marks-word, stack-stands, next-symbol,
--- next-unmarked, next-size; gone-word, status-some; few-moves, slots-within, made-within, ends-within.
+-- next-unmarked, next-size, next-last; gone-word, status-some; few-moves, slots-within, made-within, ends-within.
 use mathlib.Core.Path.{_≡_, refl, ap, _∙_}
 use mathlib.Core.List.{List, [], _∷_, _++_, append-assoc, append-nil}
 use mathlib.Core.Option.{Option, none, some}
-use Prim.Native.Nat.{ℕ, suc, _+_, _*_, _/_, _%_, _<_, _≤_}
+use Prim.Native.Nat.{ℕ, suc, _+_, _*_, _-_, _/_, _%_, _<_, _≤_}
 use native.Mathlib.Nat.{zero-add, mul-le-mul-left}
 use native.Mathlib.Omega.{arith}
 use lib.ListN.{length, getD, take, drop, length-append}
@@ -29,7 +29,7 @@ use Rattle.layout.specs.Lengths.{length-stack, length-row, length-rows, length-
 use Rattle.layout.specs.Kept.{Kept}
 use Rattle.shape.specs.Encoded.{tokens-at, chunks-at}
 use Rattle.moving.specs.MoveWords.{fromOf, headOf, endOf, marksOf, slotAt, tickWords, Stands}
-use Rattle.moving.specs.BlockWords.{first-word, mark-word, size-word}
+use Rattle.moving.specs.BlockWords.{first-word, mark-word, size-word, last-word}
 
 -- ---- the front
 
@@ -233,6 +233,12 @@ module _ (n : ℕ) (s : State Span) (rest : List ℕ) {c : ℕ} (l : Live (s .ch
 
     pub next-size : slotWord (encode n s ++ rest) (headOf (encode n s ++ rest) c) 2 ≡ size x
     next-size = next-word 2 ∙ size-word before-next 0 x (unreadWords unread ++ laterWords)
+
+    -- and its last
+    pub next-last : getD (encode n s ++ rest) (slotAt (encode n s ++ rest) (headOf (encode n s ++ rest) c + size x) - 1) 0 ≡ size x
+    next-last =
+        ap (λ (words : List ℕ). getD words (slotAt (encode n s ++ rest) (headOf (encode n s ++ rest) c + size x) - 1) 0) next-words
+        ∙ last-word before-next 0 x (unreadWords unread ++ laterWords) (slotAt (encode n s ++ rest) (headOf (encode n s ++ rest) c + size x)) (omega (arith, next-at))
 
 -- ---- which numbers are live
 

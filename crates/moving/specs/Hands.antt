@@ -1,7 +1,7 @@
 -- The hand through a move: where an area holds what is at hand, the words that the move leaves hold the hand after it.
 -- Rests on Ready, AtHand and MoveWords.
 --
--- Main statements: hand-rests; hand-counted, hand-ticks; front-over; hand-pushed, hand-stuck, hand-accepted, hand-reduced.
+-- Main statements: hand-rests; hand-counted, hand-ticks, hand-topped; front-over; hand-pushed, hand-stuck, hand-accepted, hand-reduced.
 use mathlib.Core.Path.{_≡_, sym, ap, _∙_}
 use mathlib.Core.List.{List}
 use Prim.Native.Nat.{ℕ, _+_, _*_, _-_, _/_, _%_, _<_, _≤_}
@@ -54,7 +54,7 @@ module _ {area : List ℕ} {c : ℕ} {h : Hand} (a : AtHand area c h) (v : ℕ) 
   hand-beyond i l = hand-same a (λ j q. getD-set-other area i j v 0 (omega arith))
 
   hand-status : tableAt c 0 < length area → AtHand (set area (tableAt c 0) v) c
-      (record { status = v; from = h .from; head = h .head; end = h .end; marks = h .marks; reductions = h .reductions; moves = h .moves; base = h .base })
+      (record { status = v; from = h .from; head = h .head; end = h .end; marks = h .marks; reductions = h .reductions; moves = h .moves; base = h .base; top = h .top })
   hand-status l = record {
     status = sym (getD-set-same area (tableAt c 0) v 0 l);
     from = kept (tableAt c 0) (tableAt c 1) (omega arith) (a .from);
@@ -67,7 +67,7 @@ module _ {area : List ℕ} {c : ℕ} {h : Hand} (a : AtHand area c h) (v : ℕ) 
   }
 
   hand-head : tableAt c 2 < length area → AtHand (set area (tableAt c 2) v) c
-      (record { status = h .status; from = h .from; head = v; end = h .end; marks = h .marks; reductions = h .reductions; moves = h .moves; base = h .base })
+      (record { status = h .status; from = h .from; head = v; end = h .end; marks = h .marks; reductions = h .reductions; moves = h .moves; base = h .base; top = h .top })
   hand-head l = record {
     status = kept (tableAt c 2) (tableAt c 0) (omega arith) (a .status);
     from = kept (tableAt c 2) (tableAt c 1) (omega arith) (a .from);
@@ -80,7 +80,7 @@ module _ {area : List ℕ} {c : ℕ} {h : Hand} (a : AtHand area c h) (v : ℕ) 
   }
 
   hand-end : tableAt c 3 < length area → AtHand (set area (tableAt c 3) v) c
-      (record { status = h .status; from = h .from; head = h .head; end = v; marks = h .marks; reductions = h .reductions; moves = h .moves; base = h .base })
+      (record { status = h .status; from = h .from; head = h .head; end = v; marks = h .marks; reductions = h .reductions; moves = h .moves; base = h .base; top = h .top })
   hand-end l = record {
     status = kept (tableAt c 3) (tableAt c 0) (omega arith) (a .status);
     from = kept (tableAt c 3) (tableAt c 1) (omega arith) (a .from);
@@ -93,7 +93,7 @@ module _ {area : List ℕ} {c : ℕ} {h : Hand} (a : AtHand area c h) (v : ℕ) 
   }
 
   hand-marks : tableAt c 4 < length area → AtHand (set area (tableAt c 4) v) c
-      (record { status = h .status; from = h .from; head = h .head; end = h .end; marks = v; reductions = h .reductions; moves = h .moves; base = h .base })
+      (record { status = h .status; from = h .from; head = h .head; end = h .end; marks = v; reductions = h .reductions; moves = h .moves; base = h .base; top = h .top })
   hand-marks l = record {
     status = kept (tableAt c 4) (tableAt c 0) (omega arith) (a .status);
     from = kept (tableAt c 4) (tableAt c 1) (omega arith) (a .from);
@@ -106,7 +106,7 @@ module _ {area : List ℕ} {c : ℕ} {h : Hand} (a : AtHand area c h) (v : ℕ) 
   }
 
   hand-reductions : 4 < length area → AtHand (set area 4 v) c
-      (record { status = h .status; from = h .from; head = h .head; end = h .end; marks = h .marks; reductions = v; moves = h .moves; base = h .base })
+      (record { status = h .status; from = h .from; head = h .head; end = h .end; marks = h .marks; reductions = v; moves = h .moves; base = h .base; top = h .top })
   hand-reductions l = record {
     status = kept 4 (tableAt c 0) (omega arith) (a .status);
     from = kept 4 (tableAt c 1) (omega arith) (a .from);
@@ -121,7 +121,7 @@ module _ {area : List ℕ} {c : ℕ} {h : Hand} (a : AtHand area c h) (v : ℕ) 
 -- the move counted
 pub hand-ticks : {area : List ℕ} {c : ℕ} {h : Hand} → AtHand area c h → 5 ≤ length area
     → AtHand (tickWords area) c
-    (record { status = h .status; from = h .from; head = h .head; end = h .end; marks = h .marks; reductions = h .reductions; moves = h .moves + 1; base = h .base })
+    (record { status = h .status; from = h .from; head = h .head; end = h .end; marks = h .marks; reductions = h .reductions; moves = h .moves + 1; base = h .base; top = h .top })
 unfolding tickWords
 hand-ticks {area} {c} {h} a l =
     let low : ℕ = (movesIn area + 1) % 65536 in
@@ -141,6 +141,21 @@ hand-ticks {area} {c} {h} a l =
       base = rw (getD-set-other (set area 2 low) 3 1 high 0 (omega arith), getD-set-other area 2 1 low 0 (omega arith)) (a .base);
     }
 
+-- the topmost terminal is no word of the area
+pub hand-topped : {area : List ℕ} {c : ℕ} {h : Hand} → AtHand area c h → (top : ℕ)
+    → AtHand area c (record {
+      status = h .status;
+      from = h .from;
+      head = h .head;
+      end = h .end;
+      marks = h .marks;
+      reductions = h .reductions;
+      moves = h .moves;
+      base = h .base;
+      top = top;
+    })
+hand-topped a top = record { status = a .status; from = a .from; head = a .head; end = a .end; marks = a .marks; reductions = a .reductions; moves = a .moves; base = a .base }
+
 -- ---- a move, not yet counted
 
 module _ (area : List ℕ) (c : ℕ) (h : Hand) where
@@ -154,7 +169,17 @@ module _ (area : List ℕ) (c : ℕ) (h : Hand) where
 
     pub hand-pushed : (put ≡ putWords area c mark)
         × AtHand put c
-        (record { status = h .status; from = h .from; head = headed; end = h .end; marks = h .marks + mark; reductions = h .reductions; moves = h .moves; base = h .base })
+        (record {
+          status = h .status;
+          from = h .from;
+          head = headed;
+          end = h .end;
+          marks = h .marks + mark;
+          reductions = h .reductions;
+          moves = h .moves;
+          base = h .base;
+          top = h .top;
+        })
     unfolding putWords
     hand-pushed = (
       rw (p .1 .head, p .1 .marks),
@@ -166,7 +191,7 @@ module _ (area : List ℕ) (c : ℕ) (h : Hand) where
 
   -- a chunk stuck
   pub hand-stuck : (status : ℕ) → Stickable area c × AtHand area c h → AtHand (set area (tableAt c 0) status) c
-      (record { status = status; from = h .from; head = h .head; end = h .end; marks = h .marks; reductions = h .reductions; moves = h .moves; base = h .base })
+      (record { status = status; from = h .from; head = h .head; end = h .end; marks = h .marks; reductions = h .reductions; moves = h .moves; base = h .base; top = h .top })
   hand-stuck status p = hand-status (p .1) status (omega (arith, p .0 .chunk, p .0 .room))
 
   -- the # of the end read
@@ -179,7 +204,17 @@ module _ (area : List ℕ) (c : ℕ) (h : Hand) where
 
     pub hand-accepted : (set cleared (tableAt c 3) (h .end - 1) ≡ endedWords area c)
         × AtHand (set cleared (tableAt c 3) (h .end - 1)) c
-        (record { status = h .status; from = h .from; head = h .head; end = h .end - 1; marks = h .marks; reductions = h .reductions; moves = h .moves; base = h .base })
+        (record {
+          status = h .status;
+          from = h .from;
+          head = h .head;
+          end = h .end - 1;
+          marks = h .marks;
+          reductions = h .reductions;
+          moves = h .moves;
+          base = h .base;
+          top = h .top;
+        })
     hand-accepted = (
       rw (p .1 .end) (ended-zeroed area c (p .0)),
       hand-end {area = cleared}
@@ -203,7 +238,17 @@ module _ (area : List ℕ) (c : ℕ) (h : Hand) where
     long-over = over-length area from (h .head) symbol (omega (arith, p .0 .top, p .0 .room .room, p .0 .some, p .1 .head))
 
     abbrev afterOver : Hand
-    afterOver = record { status = h .status; from = h .from; head = h .head; end = h .end; marks = h .marks - 1; reductions = h .reductions; moves = h .moves; base = h .base }
+    afterOver = record {
+      status = h .status;
+      from = h .from;
+      head = h .head;
+      end = h .end;
+      marks = h .marks - 1;
+      reductions = h .reductions;
+      moves = h .moves;
+      base = h .base;
+      top = h .top;
+    }
 
     hand-over : AtHand stored c afterOver
     hand-over =
@@ -221,7 +266,17 @@ module _ (area : List ℕ) (c : ℕ) (h : Hand) where
       made = notedWords stored rule (from - 1) (h .head - 1)
 
       hand-noted : AtHand made c
-          (record { status = h .status; from = h .from; head = h .head; end = h .end; marks = h .marks - 1; reductions = h .reductions + 1; moves = h .moves; base = h .base })
+          (record {
+            status = h .status;
+            from = h .from;
+            head = h .head;
+            end = h .end;
+            marks = h .marks - 1;
+            reductions = h .reductions + 1;
+            moves = h .moves;
+            base = h .base;
+            top = h .top;
+          })
       unfolding notedWords
       hand-noted =
           let at : ℕ = madeAtWord stored + 3 * getD stored 4 0 in
@@ -233,7 +288,17 @@ module _ (area : List ℕ) (c : ℕ) (h : Hand) where
 
       pub hand-reduced : (made ≡ madeWords area c from symbol rule)
           × AtHand made c
-          (record { status = h .status; from = h .from; head = h .head; end = h .end; marks = h .marks - 1; reductions = h .reductions + 1; moves = h .moves; base = h .base })
+          (record {
+            status = h .status;
+            from = h .from;
+            head = h .head;
+            end = h .end;
+            marks = h .marks - 1;
+            reductions = h .reductions + 1;
+            moves = h .moves;
+            base = h .base;
+            top = h .top;
+          })
       hand-reduced = (
         rw (p .1 .head) (ap (λ (l : List ℕ). notedWords l rule (from - 1) (headOf area c - 1)) (rw (p .1 .head) at over-stored)),
         hand-noted,

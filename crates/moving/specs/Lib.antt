@@ -32,6 +32,7 @@ pub mod Searches
 pub mod Settled
 pub mod SettledReadings
 pub mod ShapeKept
+pub mod StackTops
 pub mod StackWords
 pub mod StickLaw
 pub mod Walks

@@ -65,6 +65,9 @@ pub record Pushable (area : List ℕ) (c mark : ℕ) : Type 0 where
   pub slot : slotAt area (headOf area c) + 4 ≤ length area
   pub head : headOf area c + slotWord area (headOf area c) 2 < 65536
   pub marks : marksOf area c + mark < 65536
+  pub low : fromOf area c ≤ headOf area c
+  pub some : 0 < slotWord area (headOf area c) 2
+  pub last : getD area (slotAt area (headOf area c + slotWord area (headOf area c) 2) - 1) 0 ≡ slotWord area (headOf area c) 2
 
 -- ---- a chunk gets stuck
 
@@ -93,6 +96,7 @@ pub record Acceptable (area : List ℕ) (c : ℕ) : Type 0 where
   pub few : getD area 3 0 < 65535
   pub chunk : c < getD area 1 0
   pub some : 0 < endOf area c
+  pub unread : headOf area c < endOf area c
   pub room : slotAt area (endOf area c) ≤ length area
 
 -- ---- two chunks are joined

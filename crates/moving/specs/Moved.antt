@@ -9,7 +9,7 @@
 -- put-unmarked, handle-there, handle-counts, replaced, stuck-rule; matrix-long, words-readable, has-left.
 use mathlib.Core.Path.{_≡_, refl, sym, ap, subst, _∙_}
 use mathlib.Core.Bool.{Bool, true, false, false≢true, _&&_, _||_}
-use mathlib.Core.List.{List, map}
+use mathlib.Core.List.{List, [], _∷_, map}
 use mathlib.Core.Option.{Option, none, some}
 use Prim.Native.Nat.{ℕ, zero, suc, _+_, _*_, _/_, _%_, _<_, _≤_}
 use native.Mathlib.Omega.{arith}
@@ -18,6 +18,7 @@ use lib.ListN.{length, getD, set}
 use Rattle.laws.specs.Least.{finds-none}
 use Rattle.laws.specs.Tests.{ltb-not, not-both, or-first, lt-ltb, ne-eqb, eq-eqb, le-leb, lt-leb, leb-true, all, upTo}
 use Rattle.laws.specs.Passed.{both}
+use Rattle.language.specs.Trees.{Span}
 use Rattle.language.specs.Symbols.{Relation, blank, yields, equal, takes}
 use Rattle.language.specs.Grammar.{Rule, leftSide}
 use Rattle.language.specs.Words.{word, countT, countA, countR, entry, grammarOf}
@@ -26,7 +27,7 @@ use Rattle.language.specs.Matching.{matching, spelled-by}
 use Rattle.language.specs.CheckHead.{head-finds}
 use Rattle.language.specs.CheckContents.{contents-finds}
 use Rattle.words.specs.Laid
-use Rattle.machine.specs.Entries.{symbol, stackSymbols, topTerminal}
+use Rattle.machine.specs.Entries.{Entry, terminalOn, nonterminalOn, symbol, stackSymbols, topTerminal}
 use Rattle.machine.specs.Moves.{isWhole}
 use Rattle.machine.specs.TableOf.{relationFrom, relationAt, tableOf}
 use Rattle.layout.specs.Layout.{stackSize, tableAt, rowWord, slotWord}
@@ -35,16 +36,15 @@ use Rattle.matrix.specs.WordsOfShape.{PassThree, rule-a-exactly, left-sides-fit
 use Rattle.matrix.specs.EndMarkOfShape.{grammar-in-shape}
 use Rattle.moving.specs.declared.Move.{Move}
 use Rattle.moving.specs.declared.Move.the-variants.{Push, Stick, Accept, Reduce}
-use Rattle.moving.specs.declared.Top.the-variants.{Terminal, NoTerminal}
 use Rattle.moving.specs.declared.Matched.the-variants as matched
 use Rattle.moving.specs.MoveWords.{fromOf, headOf, endOf, marksOf, tickWords, putWords, pushWords, stickWords}
 use Rattle.moving.specs.MoveWords.{endedWords, acceptWords, madeWords, reduceWords, Pushable, Stickable, Acceptable, Reducible}
-use Rattle.moving.specs.ReadWords.{topOf, TopIs, NonterminalOnTop, EndAndAxiom, HandleStarts, HandleIs}
+use Rattle.moving.specs.ReadWords.{Told, Stacked, topWord, TopIs, NonterminalOnTop, EndAndAxiom, HandleStarts, HandleIs}
 use Rattle.moving.specs.MatchWords.{handleWords, matchWords, matchedOf, Readable, Whole}
 use Rattle.moving.specs.Matches.{readable}
 use Rattle.moving.specs.HandleSlots.{SomeHandle, marks-some}
 use Rattle.moving.specs.MoveLaw.{Leaves, rule-1-stuck, rule-1, rule-2, rule-3, rule-4-yields, rule-4-equal, rule-4-last, rule-4-stuck, rule-5, rule-5-stuck, rule-6}
-use Rattle.moving.specs.OneMove.{Held, Movable, stackOf, stack-held, marks-held, top-small, next-small, can-reduce, can-match, starts-held, count-held, rule-held}
+use Rattle.moving.specs.OneMove.{Held, Movable, stackOf, stack-held, marks-held, top-small, next-small, can-reduce, below-held, can-match, starts-held, count-held, rule-held}
 
 -- ---- a chunk's number, and whether it is at rest, off its row of the table
 
@@ -128,7 +128,7 @@ abbrev pub Possible : List ℕ → ℕ → Move → Type 0
 Possible area c (Push mark) = Pushable area c mark
 Possible area c (Stick status) = Stickable area c
 Possible area c Accept = Acceptable area c
-Possible area c (Reduce from symbol rule) = Reducible area c from
+Possible area c (Reduce from symbol rule) = Reducible area c from × Stacked area (fromOf area c) from × (256 ≤ symbol)
 
 -- the move that the words call for
 pub record CallsFor (words bytes area : List ℕ) (c : ℕ) (move : Move) : Type 0 where
@@ -140,7 +140,8 @@ pub record Facing (words bytes area : List ℕ) (c a b : ℕ) : Type 0 where
   pub movable : Movable words bytes area c
   pub next : b ≡ slotWord area (headOf area c) 0
   pub terminal : b < 256
-  pub top : TopIs area (fromOf area c) (headOf area c) (Terminal a)
+  pub low : a < 256
+  pub top : TopIs area (fromOf area c) (headOf area c) a
 
 -- .. and x is the byte of a over b
 pub record Compared (words bytes area : List ℕ) (c a b x : ℕ) : Type 0 where
@@ -161,13 +162,14 @@ pub record Taking (words bytes area : List ℕ) (c : ℕ) : Type 0 where
   pub takes-over : Takes words bytes area c
   pub marked : 0 < marksOf area c
 
-top-none : (o : Option ℕ) → NoTerminal ≡ topOf o → o ≡ none
-top-none none e = refl
-top-none (some a) e = let z : _≡_ {A = ℕ} 0 1 = cc in absurd (omega arith)
+top-none : (stack : List (Entry Span)) → Told stack → {top : ℕ} → 256 ≤ top → top ≡ topWord (topTerminal stack) → topTerminal stack ≡ none
+top-none [] t l e = refl
+top-none (terminalOn mark a v ∷ stack) t l e = absurd (omega (arith, t .0))
+top-none (nonterminalOn k v ∷ stack) t l e = top-none stack t l e
 
-top-some : (a : ℕ) (o : Option ℕ) → Terminal a ≡ topOf o → o ≡ some a
-top-some a none e = let z : _≡_ {A = ℕ} 0 1 = cc in absurd (omega arith)
-top-some a (some b) e = let q : a ≡ b = cc in ap some (sym q)
+top-some : (a : ℕ) (o : Option ℕ) → a < 256 → a ≡ topWord o → o ≡ some a
+top-some a none l e = absurd (omega arith)
+top-some a (some b) l e = ap some (sym e)
 
 rule-some : (r : ℕ) (o : Option ℕ) → matched.Rule r ≡ matchedOf o → o ≡ some r
 rule-some r none e = let z : _≡_ {A = ℕ} 0 1 = cc in absurd (omega arith)
@@ -203,12 +205,12 @@ module _ {words bytes area : List ℕ} {c : ℕ} where
   put-on-top h t = record { found = λ m. rule-1 h (sym (t .found (stackOf m) (stack-held m))) }
 
   -- 2
-  pub put-first : slotWord area (headOf area c) 0 < 256 → TopIs area (fromOf area c) (headOf area c) NoTerminal → Moved words bytes area c (pushWords area c 0)
-  put-first h t = record { found = λ m. rule-2 h (top-none (topTerminal (stackOf m)) (t .found (stackOf m) (stack-held m))) }
+  pub put-first : slotWord area (headOf area c) 0 < 256 → {top : ℕ} → 256 ≤ top → TopIs area (fromOf area c) (headOf area c) top → Moved words bytes area c (pushWords area c 0)
+  put-first h l t = record { found = λ m. rule-2 h (top-none (stackOf m) (stack-held m .told) l (t .found (stackOf m) (stack-held m))) }
 
   module _ {a b : ℕ} (f : Facing words bytes area c a b) where
     over : (m : Movable words bytes area c) → topTerminal (stackOf m) ≡ some a
-    over m = top-some a (topTerminal (stackOf m)) (f .top .found (stackOf m) (stack-held m))
+    over m = top-some a (topTerminal (stackOf m)) (f .low) (f .top .found (stackOf m) (stack-held m))
 
     -- a and b fit the matrix
     pub top-fits : a < 64
@@ -324,4 +326,9 @@ module _ {words bytes area : List ℕ} {c : ℕ} where
         pub reduces : CallsFor words bytes area c (Reduce at (256 + word words (entry words r)) r)
         reduces =
             let m = fact .movable in
-            record { possible = subst (λ (i : ℕ). Reducible area c i) (sym (starts-at m)) (can-reduce m (the-handle m .above)); leaves = replaced }
+            let above = the-handle m .above in
+            record {
+              possible = subst (λ (i : ℕ). Reducible area c i × Stacked area (fromOf area c) i × (256 ≤ 256 + word words (entry words r))) (sym (starts-at m))
+                  (can-reduce m above, below-held m above, omega arith);
+              leaves = replaced;
+            }

@@ -5,7 +5,7 @@
 --
 -- Main definitions: Held, Movable, Joining.
 -- Main statements: held-in-shape; live-held, held-live, runs-held, rests-held, next-held; can-push, can-stick, row-there, can-accept, can-reduce,
--- can-read, can-match; stack-held, marks-held, top-small, next-small, starts-held, count-held, rule-held; moves-so, held-stepped, live-stepped;
+-- can-read, can-match, below-held; stack-held, marks-held, top-small, next-small, starts-held, count-held, rule-held; moves-so, held-stepped, live-stepped;
 -- can-join, joins-so, joined-words, held-joined.
 use mathlib.Core.Path.{_≡_, sym, ap, subst, _∙_}
 use mathlib.Core.Bool.{true}
@@ -33,7 +33,7 @@ use Rattle.matrix.specs.EndMarkOfShape.{grammar-in-shape}
 use Rattle.shape.specs.InShape.{in-shape-parts, in-shape-holds}
 use Rattle.shape.specs.Safe.{safe-turned}
 use Rattle.moving.specs.MoveWords.{fromOf, headOf, endOf, marksOf, joinWords, Pushable, Stickable, Acceptable, Joinable, Reducible}
-use Rattle.moving.specs.ReadWords.{Holds, HasStack, HandleStarts, HandleIs, liveAfter}
+use Rattle.moving.specs.ReadWords.{Holds, Stacked, HasStack, HandleStarts, HandleIs, liveAfter}
 use Rattle.moving.specs.MatchWords.{handleWords, matchWords, Whole}
 use Rattle.moving.specs.AroundChunk.{from-word, marks-word, next-symbol}
 use Rattle.moving.specs.PushLaw.{push-ready}
@@ -41,6 +41,8 @@ use Rattle.moving.specs.StickLaw.{stick-ready}
 use Rattle.moving.specs.AcceptLaw.{accept-ready}
 use Rattle.moving.specs.ReduceLaw.{reduce-ready}
 use Rattle.moving.specs.LiveWords.{live-number, number-live, NextIs, next-status}
+use Rattle.moving.specs.HandleSlots.{handle-splits}
+use Rattle.moving.specs.StackTops.{below-stacked}
 use Rattle.moving.specs.ReadLaw.{stack-holds, has-stack, top-ranged, next-ranged, handle-starts, handle-whole, handle-counted, handle-matches}
 use Rattle.moving.specs.JoinLaw.{nextNumber, afterJoin, join-becomes, join-law, join-ready}
 use Rattle.moving.specs.MoveLaw.{Runs, runs-unread, runs-words, rests-words, Leaves, Stepped, move-law}
@@ -172,6 +174,11 @@ module _ {words bytes area : List ℕ} {c : ℕ} (m : Movable words bytes area c
     can-reduce = on-area (λ a. Reducible a c (fromOf a c + stackSize below))
         (rw (from-word (m .held .tokens) (m .held .state) (m .held .rest) (m .live))
         (reduce-ready (m .held .kept) (m .held .rest) (m .live) h (m .runs .next) (m .runs .unread) (runs-unread (m .runs))))
+
+    -- what lies under it
+    pub below-held : Stacked area (fromOf area c) (fromOf area c + stackSize below)
+    below-held =
+        below-stacked handle below (subst (λ (stack : List (Entry Span)). Holds area (fromOf area c) (headOf area c) stack) (handle-splits h) stack-held)
 
     pub starts-held : (at : ℕ) → HandleStarts area (fromOf area c) (headOf area c) at → at ≡ fromOf area c + stackSize below
     starts-held =

@@ -22,7 +22,7 @@ use Rattle.layout.specs.Kept.{Kept}
 use Rattle.shape.specs.Encoded.{chunks-at}
 use Rattle.moving.specs.MoveWords.{headOf, marksOf, putWords, pushWords, Pushable}
 use Rattle.moving.specs.AroundChunk.{finerParts, around-finer, tick-law, listed-words, read-words, head-word, marks-word}
-use Rattle.moving.specs.AroundChunk.{next-size, number-within, few-moves, slots-within, ends-within}
+use Rattle.moving.specs.AroundChunk.{next-size, next-last, from-word, number-within, few-moves, slots-within, ends-within}
 
 -- a stack has no more marks than slots
 pub marks-few : (stack : List (Entry Span)) → marks stack ≤ stackSize stack
@@ -127,4 +127,7 @@ module _ {t N n : ℕ} {s : State Span} (k : Kept t N n s) (rest : List ℕ) {c 
         slot = omega (arith, slots-within k rest);
         head = omega (arith, k .few-tokens);
         marks = omega (arith, k .few-tokens, marks-few (l .chunk .stack));
+        low = omega (arith, head, from-word n s rest l);
+        some = omega (arith, long);
+        last = rw long (next-last n s rest l x unread next);
       }

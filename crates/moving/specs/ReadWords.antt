@@ -6,7 +6,7 @@
 -- A reading of a stack is said of every stack that stands in the words.
 -- Rests on MoveWords, on machine's Entries and Moves, and on laws' Least.
 --
--- Main definitions: Told, Holds, HasStack; TopIs, NonterminalOnTop, EndAndAxiom, handleBelow, HandleStarts, HandleIs, liveAfter.
+-- Main definitions: Told, Holds, HasStack; TopIs, topAfter, NonterminalOnTop, EndAndAxiom, handleBelow, HandleStarts, HandleIs, liveAfter.
 use mathlib.Core.Path.{_≡_}
 use mathlib.Core.Bool.{Bool, true, false}
 use mathlib.Core.List.{List, [], _∷_}
@@ -19,8 +19,6 @@ use Rattle.language.specs.Trees.{Span}
 use Rattle.machine.specs.Entries.{Entry, terminalOn, nonterminalOn, topTerminal, topIsNonterminal}
 use Rattle.machine.specs.Moves.{Table, isWhole}
 use Rattle.layout.specs.Layout.{stackSize, rowWord}
-use Rattle.moving.specs.declared.Top.{Top}
-use Rattle.moving.specs.declared.Top.the-variants.{Terminal, NoTerminal}
 use Rattle.moving.specs.declared.Next.{Next}
 use Rattle.moving.specs.declared.Next.the-variants.{Chunk, NoChunk}
 use Rattle.moving.specs.MoveWords.{fromOf, headOf, slotAt, Stands}
@@ -65,13 +63,18 @@ pub record EndsBlock (area : List ℕ) (e : ℕ) : Type 0 where
 
 -- ---- the top
 
-abbrev pub topOf : Option ℕ → Top
-topOf none = NoTerminal
-topOf (some a) = Terminal a
+-- the word of the topmost terminal; 256, which is no terminal's, where there is none
+abbrev pub topWord : Option ℕ → ℕ
+topWord none = 256
+topWord (some a) = a
 
 -- "topmost stack terminal a"
-pub record TopIs (area : List ℕ) (s e : ℕ) (top : Top) : Type 0 where
-  pub found : (stack : List (Entry Span)) → Holds area s e stack → top ≡ topOf (topTerminal stack)
+pub record TopIs (area : List ℕ) (s e top : ℕ) : Type 0 where
+  pub found : (stack : List (Entry Span)) → Holds area s e stack → top ≡ topWord (topTerminal stack)
+
+-- .. once a symbol of word b is put on
+abbrev pub topAfter : ℕ → ℕ → ℕ
+topAfter b top = elim (ltb b 256) [ true ↦ b | false ↦ top ]
 
 -- "if the top is one too"
 pub record NonterminalOnTop (area : List ℕ) (s e : ℕ) (on : Bool) : Type 0 where

@@ -2,13 +2,13 @@
 -- handle and the length while it is replaced, so that the hand's words are where they were.
 -- Rests on MoveWords.
 --
--- Main statements: one-ready, cleared-before, over-before, over-length, replaced-before.
+-- Main statements: one-ready, cleared-before, over-before, over-length, over-first, over-last, replaced-before.
 use Prim.Native.Nat.{ℕ, zero, suc, _+_, _*_, _-_, _<_, _≤_}
 use mathlib.Core.Path.{_≡_, _∙_}
 use mathlib.Core.List.{List, _++_}
 use native.Mathlib.Omega.{arith}
 use lib.ListN.{length, getD, take, drop, set, length-set, length-append, length-replicate, length-take, length-drop, List·getD-append}
-use lib.Seq.{getD-set-other, getD-take}
+use lib.Seq.{getD-set-other, getD-set-same, getD-take}
 use Rattle.layout.specs.Layout.{zeros, tableAt}
 use Rattle.moving.specs.MoveWords.{fromOf, headOf, endOf, marksOf, slotAt, unmarkWords, goneWords}
 use Rattle.moving.specs.MoveWords.{oneWords, clearedWords, laidWords, overWords, replacedWords, Ticks, Reducible}
@@ -71,6 +71,33 @@ pub over-length : (area : List ℕ) (from head symbol : ℕ) → slotAt area fro
     → length (overWords area from head symbol) ≡ length area
 unfolding laidWords
 over-length area from head symbol r = simp length-set (cleared-length area (slotAt area from) (slotAt area head - slotAt area from) r)
+
+-- the symbol and the size of what is laid
+module _ (area : List ℕ) (from head symbol : ℕ) (l : from < head) (room : slotAt area head ≤ length area) where
+  abbrev i : ℕ
+  i = slotAt area from
+
+  abbrev size : ℕ
+  size = head - from
+
+  abbrev cleared : List ℕ
+  cleared = clearedWords area i (slotAt area head - slotAt area from)
+
+  long-cleared : length cleared ≡ length area
+  long-cleared = cleared-length area i (slotAt area head - slotAt area from) (omega arith)
+
+  pub over-first : getD (overWords area from head symbol) (slotAt area from + 0) 0 ≡ symbol
+  unfolding laidWords
+  over-first =
+      let z : i + 0 ≡ i = omega arith in
+      rw z (getD-set-other (set (set cleared i symbol) (i + 2) size) (i + 4 * size - 1) i size 0 (omega arith)
+      ∙ getD-set-other (set cleared i symbol) (i + 2) i size 0 (omega arith) ∙ getD-set-same cleared i symbol 0 (omega (arith, long-cleared)))
+
+  pub over-last : getD (overWords area from head symbol) (slotAt area head - 1) 0 ≡ head - from
+  unfolding laidWords
+  over-last =
+      let z : slotAt area head - 1 ≡ i + 4 * size - 1 = omega arith in
+      rw z (getD-set-same (set (set cleared i symbol) (i + 2) size) (i + 4 * size - 1) size 0 (simp length-set (omega (arith, long-cleared))))
 
 module _ (area : List ℕ) (c from symbol : ℕ) (h : Reducible area c from) where
   inside : slotAt area from + (slotAt area (headOf area c) - slotAt area from) ≤ length area

@@ -3,9 +3,9 @@
 -- Rests on OneMove, Moved, CallLaws and OnWords, and on machine's Counts (the laws for a loop that makes a run's moves).
 --
 -- Main definitions: Runnable, RanWords (the words that a run's moves leave), Underway (after some of them).
--- Main statements: underway, underway-listed, underway-movable, underway-more, underway-rests, underway-spent; run-bad, run-gone, run-rests, run-moved;
+-- Main statements: runnable-stack; underway, underway-listed, underway-movable, underway-more, underway-rests, underway-spent; run-bad, run-gone, run-rests, run-moved;
 -- step-by-run (a step is a run of one move).
-use mathlib.Core.Path.{_≡_, refl, sym, ap, _∙_}
+use mathlib.Core.Path.{_≡_, refl, sym, ap, subst, _∙_}
 use mathlib.Core.Bool.{Bool, true, false, false≢true}
 use mathlib.Core.List.{List, _++_}
 use Prim.Native.Nat.{ℕ, suc, _+_, _-_, _<_, _≤_}
@@ -32,7 +32,9 @@ use Rattle.layout.specs.Kept.{Kept}
 use Rattle.area.specs.Shape.{inShape}
 use Rattle.shape.specs.Safe.{safe-turned}
 use Rattle.moving.specs.MoveLaw.{Stepped, runs-on}
-use Rattle.moving.specs.OneMove.{Held, Movable, held-live, live-stepped, moves-so}
+use Rattle.moving.specs.ReadWords.{HasStack}
+use Rattle.moving.specs.ReadLaw.{has-stack}
+use Rattle.moving.specs.OneMove.{Held, Movable, terminals-small, held-live, live-stepped, moves-so}
 use Rattle.moving.specs.Moved.{Moved, liveIn, restsIn, live-status}
 use Rattle.moving.specs.CallLaws.{there, table-there, the-live, none-live, at-rest-there, movable}
 use Rattle.moving.specs.Calls.{calledAnswer, calledArea, stepCall, stepAnswer, stepArea, ranAnswer, ranArea, runCall, runAnswer, runArea}
@@ -42,6 +44,11 @@ use Rattle.moving.specs.OnWords.{run-broken, run-in-shape}
 pub record Runnable (words bytes area : List ℕ) (c : ℕ) : Type 0 where
   pub held : Held words bytes area
   pub live : Live (held .state .chunks) c
+
+-- the chunk's stack stands there
+pub runnable-stack : {words bytes area : List ℕ} {c : ℕ} → Runnable words bytes area c → HasStack area c
+runnable-stack {c = c} m =
+    subst (λ (a : List ℕ). HasStack a c) (sym (m .held .area-is)) (has-stack (m .held .kept) (m .held .rest) (m .live) (omega (arith, terminals-small (m .held))))
 
 -- the words of the row after at most `budget` moves of chunk c, of which `made` were made
 pub record RanSo (words bytes : List ℕ) (n : ℕ) (s : State Span) (rest : List ℕ) (c budget made : ℕ) (area : List ℕ) : Type 0 where

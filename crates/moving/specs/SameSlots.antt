@@ -16,7 +16,6 @@ use lib.Seq.{length-take-le, drop-at, ext-getD, getD-append-add, getD-drop, getD
 use Rattle.language.specs.Trees.{Span}
 use Rattle.machine.specs.Entries.{Entry}
 use Rattle.layout.specs.Layout.{zeros, slotsAt, slotWord}
-use Rattle.moving.specs.declared.Top.{Top}
 use Rattle.moving.specs.MoveWords.{slotAt, Stands, Laid, clearedWords, laidWords, overWords}
 use Rattle.moving.specs.ReadWords.{Holds, Stacked, TopIs, NonterminalOnTop, EndAndAxiom, HandleIs}
 use Rattle.moving.specs.MatchWords.{symbolWords, handleWords, Whole, no-block, a-block}
@@ -83,7 +82,7 @@ module _ {area other : List ℕ} (m : SameSlots area other) where
   whole-same (a-block {s = s} h w) = a-block (rw (slot-same s 2) at h) (rw (slot-same s 2) at (whole-same w))
 
 module _ {area other : List ℕ} (m : SameSlots area other) {s e : ℕ} where
-  pub top-same : {top : Top} → TopIs area s e top → TopIs other s e top
+  pub top-same : {top : ℕ} → TopIs area s e top → TopIs other s e top
   top-same t = record { found = λ stack h. t .found stack (holds-same (same-back m) h) }
 
   pub nonterminal-same : {on : Bool} → NonterminalOnTop area s e on → NonterminalOnTop other s e on

@@ -13,14 +13,17 @@ use native.Mathlib.Omega.{arith}
 use native.Mathlib.Decide.{decLt}
 use lib.ListN.{length, getD, set, length-set}
 use lib.Seq.{ext-getD, getD-set-other, getD-set-same}
+use Rattle.laws.specs.Tests.{le-ltb}
 use Rattle.layout.specs.Layout.{tableAt, rowWord, slotWord, slotsAt, madeAtWord, movesIn}
 use Rattle.moving.specs.declared.Hand.{Hand}
 use Rattle.moving.specs.AtHand.{AtHand}
 use Rattle.moving.specs.MoveWords.{slotAt, tickWords, putWords, endedWords, clearedWords, overWords, entryWords, notedWords, madeWords}
 use Rattle.moving.specs.MoveWords.{Laid, Pushable, Stickable, Acceptable, Reducible}
+use Rattle.moving.specs.ReadWords.{lastWord, TopIs, topAfter}
+use Rattle.moving.specs.StackTops.{top-kept, top-laid}
 use Rattle.moving.specs.SameSlots.{SameSlots, slot-same, laid-same, set-same, cleared-same, over-same}
-use Rattle.moving.specs.Ready.{cleared-length, cleared-before, over-before, over-length}
-use Rattle.moving.specs.Hands.{hand-ticks, hand-pushed, hand-stuck, hand-accepted, hand-reduced, front-over}
+use Rattle.moving.specs.Ready.{cleared-length, cleared-before, over-before, over-length, over-first, over-last}
+use Rattle.moving.specs.Hands.{hand-ticks, hand-pushed, hand-stuck, hand-accepted, hand-reduced, front-over, hand-topped}
 
 -- the hand's words put in: the counts of moves and of reductions, and chunk c's row of the table
 unfoldable pub settled : List ℕ → ℕ → Hand → List ℕ
@@ -35,6 +38,10 @@ pub record Holding (area : List ℕ) (c : ℕ) (h : Hand) : Type 0 where
   pub base : h .base ≡ slotsAt area
   pub marks : h .marks < 65536
   pub reductions : h .reductions < 65536
+
+-- the topmost terminal at hand is that of the stack
+abbrev pub Topped : List ℕ → Hand → Type 0
+Topped area h = TopIs area (h .from) (h .head) (h .top)
 
 -- a word that is not at hand
 abbrev pub Apart : ℕ → ℕ → Type 0
@@ -198,7 +205,17 @@ module _ {area : List ℕ} {c : ℕ} {h : Hand} (k : Holding area c h) where
 
   -- the move counted
   abbrev counted : Hand
-  counted = record { status = h .status; from = h .from; head = h .head; end = h .end; marks = h .marks; reductions = h .reductions; moves = h .moves + 1; base = h .base }
+  counted = record {
+    status = h .status;
+    from = h .from;
+    head = h .head;
+    end = h .end;
+    marks = h .marks;
+    reductions = h .reductions;
+    moves = h .moves + 1;
+    base = h .base;
+    top = h .top;
+  }
 
   held-counted : Holding area c counted
   held-counted = record { chunk = k .chunk; room = k .room; base = k .base; marks = k .marks; reductions = k .reductions }
@@ -224,7 +241,7 @@ module _ {area : List ℕ} {c : ℕ} {h : Hand} (k : Holding area c h) where
   -- a chunk stuck
   module _ (status : ℕ) (p : Stickable whole c) where
     abbrev stopped : Hand
-    stopped = record { status = status; from = h .from; head = h .head; end = h .end; marks = h .marks; reductions = h .reductions; moves = h .moves; base = h .base }
+    stopped = record { status = status; from = h .from; head = h .head; end = h .end; marks = h .marks; reductions = h .reductions; moves = h .moves; base = h .base; top = h .top }
 
     held-stopped : Holding area c stopped
     held-stopped = record { chunk = k .chunk; room = k .room; base = k .base; marks = k .marks; reductions = k .reductions }
@@ -247,7 +264,17 @@ module _ {area : List ℕ} {c : ℕ} {h : Hand} (k : Holding area c h) where
     headed = h .head + slotWord area (h .head) 2
 
     abbrev pushed : Hand
-    pushed = record { status = h .status; from = h .from; head = headed; end = h .end; marks = h .marks + mark; reductions = h .reductions; moves = h .moves; base = h .base }
+    pushed = record {
+      status = h .status;
+      from = h .from;
+      head = headed;
+      end = h .end;
+      marks = h .marks + mark;
+      reductions = h .reductions;
+      moves = h .moves;
+      base = h .base;
+      top = topAfter (slotWord area (h .head) 0) (h .top);
+    }
 
     abbrev at : ℕ
     at = slotAt area (h .head) + 1
@@ -260,6 +287,27 @@ module _ {area : List ℕ} {c : ℕ} {h : Hand} (k : Holding area c h) where
           omega (arith, p .head, slot-same same (h .head) 2, ap (λ (i : ℕ). slotWord whole i 2) (s .hand .head), s .hand .head),
           omega (arith, p .marks, s .hand .marks),
         )
+
+    -- the block that is put on ends in its size
+    block-ends : (h .from ≤ h .head) × (h .head < headed) × (getD area (slotAt area headed - 1) 0 ≡ headed - h .head)
+    block-ends =
+        let a = settles k .hand in
+        let long : slotWord whole (h .head) 2 ≡ slotWord area (h .head) 2 = slot-same same (h .head) 2 in
+        let some = rw (← a .head, long) at (p .some) in
+        let last = rw (← a .head, long) at (p .last) in
+        let there : getD whole (slotAt whole headed - 1) 0 ≡ getD area (slotAt area headed - 1) 0 =
+        same .words (slotAt whole headed - 1) (omega (arith, some)) ∙ rw (same .chunks) in
+        (omega (arith, p .low, a .from, a .head), omega (arith, some), omega (arith, there, last))
+
+    pub top-pushed : Topped area h → Topped (set area at mark) pushed
+    top-pushed t =
+        let e = block-ends in
+        let one : getD (set area at mark) 1 0 ≡ getD area 1 0 = getD-set-other area at 1 mark 0 (omega arith) in
+        let long : length area ≡ length (set area at mark) = simp length-set in
+        let last : lastWord (set area at mark) headed ≡ headed - h .head
+        = rw one (getD-set-other area at (slotAt area headed - 1) mark 0 (omega (arith, e .1)) ∙ e .2) in
+        let first : slotWord (set area at mark) (h .head) 0 ≡ slotWord area (h .head) 0 = rw one (getD-set-other area at (slotAt area (h .head) + 0) mark 0 (omega arith)) in
+        top-laid long (λ j l. sym (getD-set-other area at j mark 0 (omega arith))) (e .0) (e .1) last first t
 
     held-pushed : Holding (set area at mark) c pushed
     held-pushed =
@@ -286,7 +334,7 @@ module _ {area : List ℕ} {c : ℕ} {h : Hand} (k : Holding area c h) where
                   getD-set-other put (tableAt c 2) 2 headed 0 (omega arith),
                   getD-set-other whole at 2 mark 0 (omega arith),
                 ) (s .low);
-            hand = q .1;
+            hand = hand-topped (q .1) _;
             others = λ j n.
                 getD-set-other stored (tableAt c 4) j (h .marks + mark) 0 (λ e. n .1 (omega arith) (omega arith))
                 ∙ getD-set-other put (tableAt c 2) j headed 0 (λ e. n .1 (omega arith) (omega arith)) ∙ set-same whole area (s .long) at mark j (s .others j n);
@@ -297,7 +345,17 @@ module _ {area : List ℕ} {c : ℕ} {h : Hand} (k : Holding area c h) where
   -- the # of the end read
   module _ (p : Acceptable whole c) where
     abbrev ended : Hand
-    ended = record { status = h .status; from = h .from; head = h .head; end = h .end - 1; marks = h .marks; reductions = h .reductions; moves = h .moves; base = h .base }
+    ended = record {
+      status = h .status;
+      from = h .from;
+      head = h .head;
+      end = h .end - 1;
+      marks = h .marks;
+      reductions = h .reductions;
+      moves = h .moves;
+      base = h .base;
+      top = h .top;
+    }
 
     abbrev last : ℕ
     last = slotAt area (h .end - 1)
@@ -313,6 +371,11 @@ module _ {area : List ℕ} {c : ℕ} {h : Hand} (k : Holding area c h) where
         let one : getD (clearedWords area last 4) 1 0 ≡ getD area 1 0 = cleared-before area last 4 1 (omega arith) (omega (arith, in-area)) in
         let long : length (clearedWords area last 4) ≡ length area = cleared-length area last 4 in-area in
         record { chunk = rw one (k .chunk); room = rw (one, long) (k .room); base = rw one (k .base); marks = k .marks; reductions = k .reductions }
+
+    pub top-ended : Topped area h → Topped (clearedWords area last 4) ended
+    top-ended t =
+        let unread : h .head < h .end = omega (arith, p .unread, settles k .hand .head, settles k .hand .end) in
+        top-kept (sym (cleared-length area last 4 in-area)) (λ j l. sym (cleared-before area last 4 j (omega arith) (omega (arith, in-area)))) t
 
     pub settled-accepted : (settled (clearedWords area last 4) c ended ≡ endedWords whole c) × Holding (clearedWords area last 4) c ended
     settled-accepted =
@@ -337,9 +400,19 @@ module _ {area : List ℕ} {c : ℕ} {h : Hand} (k : Holding area c h) where
         )
 
   -- a handle replaced
-  module _ (from symbol rule : ℕ) (p : Reducible whole c from) (few : getD area 0 0 < 65536) where
+  module _ (from symbol rule top : ℕ) (p : Reducible whole c from) (few : getD area 0 0 < 65536) where
     abbrev reduced : Hand
-    reduced = record { status = h .status; from = h .from; head = h .head; end = h .end; marks = h .marks - 1; reductions = h .reductions + 1; moves = h .moves; base = h .base }
+    reduced = record {
+      status = h .status;
+      from = h .from;
+      head = h .head;
+      end = h .end;
+      marks = h .marks - 1;
+      reductions = h .reductions + 1;
+      moves = h .moves;
+      base = h .base;
+      top = top;
+    }
 
     abbrev over : List ℕ
     over = overWords area from (h .head) symbol
@@ -380,11 +453,29 @@ module _ {area : List ℕ} {c : ℕ} {h : Hand} (k : Holding area c h) where
       omega (arith, p .room .room, reduce-fits .2, long-over, over-word 0 (omega arith), over-word 1 (omega arith), same .chunks, same .long, zero-same),
     )
 
-    noted-word : (j : ℕ) → j < slotsAt area → getD noted j 0 ≡ getD area j 0
-    noted-word j l =
-        let far : j < place = omega (arith, over-word 1 (omega arith)) in
+    -- a word below the reductions
+    noted-slot : (j : ℕ) → j < slotAt area (h .head) → getD noted j 0 ≡ getD over j 0
+    noted-slot j l =
+        let far : j < place = omega (arith, p .top, same .chunks, zero-same, settles k .hand .head, over-word 0 (omega arith), over-word 1 (omega arith)) in
         getD-set-other (set (set over place rule) (place + 1) (from - 1)) (place + 2) j (h .head - 1) 0 (omega arith)
-        ∙ getD-set-other (set over place rule) (place + 1) j (from - 1) 0 (omega arith) ∙ getD-set-other over place j rule 0 (omega arith) ∙ over-word j l
+        ∙ getD-set-other (set over place rule) (place + 1) j (from - 1) 0 (omega arith) ∙ getD-set-other over place j rule 0 (omega arith)
+
+    noted-word : (j : ℕ) → j < slotsAt area → getD noted j 0 ≡ getD area j 0
+    noted-word j l = noted-slot j (omega arith) ∙ over-word j l
+
+    noted-below : (j : ℕ) → j < slotAt area from → getD area j 0 ≡ getD noted j 0
+    noted-below j l = sym (noted-slot j (omega (arith, in-slots)) ∙ over-before area from (h .head) symbol j l (in-slots .0) (omega (arith, in-slots)))
+
+    pub top-reduced : 256 ≤ symbol → h .from ≤ from → TopIs area (h .from) from top → Topped noted reduced
+    top-reduced nonterminal below t =
+        let one : getD noted 1 0 ≡ getD area 1 0 = noted-word 1 (omega arith) in
+        let long : length area ≡ length noted = simp length-set (sym long-over) in
+        let last : lastWord noted (h .head) ≡ h .head - from
+        = rw one (noted-slot (slotAt area (h .head) - 1) (omega (arith, in-slots)) ∙ over-last area from (h .head) symbol (in-slots .0) (in-slots .1)) in
+        let first : slotWord noted from 0 ≡ symbol
+        = rw one (noted-slot (slotAt area from + 0) (omega (arith, in-slots)) ∙ over-first area from (h .head) symbol (in-slots .0) (in-slots .1)) in
+        let laid : TopIs noted (h .from) (h .head) (topAfter symbol top) = top-laid long noted-below below (in-slots .0) last first t in
+        rw (le-ltb symbol 256 nonterminal, topAfter) at laid
 
     held-reduced : Holding noted c reduced
     held-reduced =
@@ -439,7 +530,7 @@ module _ {area : List ℕ} {c : ℕ} {h : Hand} (k : Holding area c h) where
           settled-is held-reduced (record {
             long = simp length-set long-whole;
             low = rw (getD-set-other (entered stored) 4 2 (h .reductions + 1) 0 (omega arith), entered-low) (settles k .low);
-            hand = q .1;
+            hand = hand-topped (q .1) _;
             others = λ j n. getD-set-other (entered stored) 4 j (h .reductions + 1) 0 (λ e. n .0 (omega arith) (omega arith)) ∙ entered-same j n;
           }) ∙ q .0,
           held-reduced,

@@ -1,7 +1,7 @@
 -- What a move reads in the lent words, by the hand, while a run is underway: it can be read, and is what stands in the area with the hand's words put in (`whole`).
 -- Rests on Settled and SameSlots.
 --
--- Main statements: hand-taking; hand-next, hand-stack, hand-match (what can be read); of-next, of-nonterminal, of-top, of-axiom, of-handle, of-rule (what was read).
+-- Main statements: hand-taking; hand-next, hand-stack, hand-below, hand-match (what can be read); of-next, of-nonterminal, of-top, of-axiom, of-handle, of-rule (what was read).
 use mathlib.Core.Path.{_≡_, sym, ap, _∙_}
 use mathlib.Core.Bool.{Bool}
 use mathlib.Core.List.{List}
@@ -10,7 +10,6 @@ use native.Mathlib.Omega.{arith}
 use lib.ListN.{length}
 use Rattle.layout.specs.Layout.{slotsAt, slotWord}
 use Rattle.moving.specs.declared.Hand.{Hand}
-use Rattle.moving.specs.declared.Top.{Top}
 use Rattle.moving.specs.declared.Matched.{Matched}
 use Rattle.moving.specs.AtHand.{AtHand}
 use Rattle.moving.specs.MoveWords.{fromOf, headOf, slotAt}
@@ -35,6 +34,9 @@ module _ {area whole : List ℕ} {c : ℕ} {h : Hand} (k : Holding area c h) (t 
   pub hand-stack : HasStack whole c → (h .base ≡ slotsAt area) × Stacked area (h .from) (h .head)
   hand-stack p = (k .base, stacked-same same (rw (← a .from, ← a .head) at (p .stacked)))
 
+  pub hand-below : {from : ℕ} → Stacked whole (fromOf whole c) from → Stacked area (h .from) from
+  hand-below p = stacked-same same (rw (← a .from) at p)
+
   -- ---- what was read
 
   pub of-next : {b : ℕ} → b ≡ slotWord area (h .head) 0 → b ≡ slotWord whole (headOf whole c) 0
@@ -43,7 +45,7 @@ module _ {area whole : List ℕ} {c : ℕ} {h : Hand} (k : Holding area c h) (t 
   pub of-nonterminal : {on : Bool} → NonterminalOnTop area (h .from) (h .head) on → NonterminalOnTop whole (fromOf whole c) (headOf whole c) on
   of-nonterminal r = rw (a .from, a .head) at (nonterminal-same (same-back same) r)
 
-  pub of-top : {top : Top} → TopIs area (h .from) (h .head) top → TopIs whole (fromOf whole c) (headOf whole c) top
+  pub of-top : {top : ℕ} → TopIs area (h .from) (h .head) top → TopIs whole (fromOf whole c) (headOf whole c) top
   of-top r = rw (a .from, a .head) at (top-same (same-back same) r)
 
   pub of-axiom : {axioms : ℕ} {is : Bool} → EndAndAxiom area (h .from) (h .head) axioms is → EndAndAxiom whole (fromOf whole c) (headOf whole c) axioms is

@@ -14,8 +14,7 @@ use Rattle.laws.specs.Tests.{le-leb, lt-leb}
 use Rattle.language.specs.Trees.{Span}
 use Rattle.machine.specs.Entries.{Entry, terminalOn, nonterminalOn, topTerminal, topIsNonterminal}
 use Rattle.layout.specs.Layout.{stackSize, slotWord}
-use Rattle.moving.specs.declared.Top.the-variants.{Terminal}
-use Rattle.moving.specs.ReadWords.{Holds, Stacked, startSlot, EndsBlock, topOf, belowMark, handleBelow, NonterminalOnTop, BelowMark}
+use Rattle.moving.specs.ReadWords.{Holds, Stacked, startSlot, EndsBlock, topWord, belowMark, handleBelow, NonterminalOnTop, BelowMark}
 use Rattle.moving.specs.StackWords.{stacked, slot-start, slot-ends, slot-symbol, slot-mark, slot-under}
 
 -- slots that hold something end in a block
@@ -57,13 +56,13 @@ module _ (A : Type 0) (f : List (Entry Span) → A) {area : List ℕ} {s at : �
 -- ---- the topmost terminal
 
 module _ {area : List ℕ} {s at : ℕ} {stack : List (Entry Span)} (d : Down _ topTerminal area s at stack) (l : s < at) where
-  pub top-found : slotWord area (startSlot area at) 0 < 256 → Terminal (slotWord area (startSlot area at) 0) ≡ topOf (topTerminal stack)
+  pub top-found : slotWord area (startSlot area at) 0 < 256 → slotWord area (startSlot area at) 0 ≡ topWord (topTerminal stack)
   top-found b = go (d .left) (d .holds) (d .same)
     where
       go : (left : List (Entry Span)) → Holds area s at left → topTerminal stack ≡ topTerminal left
-          → Terminal (slotWord area (startSlot area at) 0) ≡ topOf (topTerminal stack)
+          → slotWord area (startSlot area at) 0 ≡ topWord (topTerminal stack)
       go [] h e = absurd (omega (arith, h .stands .stop))
-      go (terminalOn mark a v ∷ left) h e = ap Terminal (slot-symbol h) ∙ sym (ap topOf e)
+      go (terminalOn mark a v ∷ left) h e = slot-symbol h ∙ sym (ap topWord e)
       go (nonterminalOn k v ∷ left) h e = absurd (omega (arith, slot-symbol h))
 
   pub top-more : 256 ≤ slotWord area (startSlot area at) 0 → Down _ topTerminal area s (startSlot area at) stack

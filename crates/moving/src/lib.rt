@@ -2,8 +2,8 @@
 // machine's move of the state that the words stand for, and what the calls that make them answer and leave. Here stand the types that this
 // speaks of, and the rest in specs/; the code of the moves is crate `reader`.
 
-// What a run has at hand of its chunk: the chunk's row of the table, the counts of reductions and of moves, and the word where the slots start. The area holds
-// the row and the counts once the run has ended.
+// What a run has at hand of its chunk: the chunk's row of the table, the counts of reductions and of moves, the word where the slots start,
+// and the word of the topmost terminal of its stack (256 where it has none). The area holds the row and the counts once the run has ended.
 pub struct Hand {
     pub status: u16,
     pub from: u16,
@@ -13,12 +13,7 @@ pub struct Hand {
     pub reductions: u32,
     pub moves: u32,
     pub base: usize,
-}
-
-// The topmost terminal of a stack, or that it has none.
-pub enum Top {
-    Terminal(u16),
-    NoTerminal,
+    pub top: u32,
 }
 
 // The handle of a stack: the slot where it starts, and how many symbols it has.

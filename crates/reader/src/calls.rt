@@ -4,7 +4,6 @@ use crate::moves;
 use moving::Hand;
 use moving::Matched;
 use moving::Move;
-use moving::Top;
 ghost use mathlib.Core.Path.{_≡_};
 ghost use Prim.Native.Nat.{_+_, _-_, _≤_, _<_};
 ghost use lib.Dec.{eqb};
@@ -14,7 +13,7 @@ ghost use Rattle.layout.specs.Layout.{slotsAt};
 ghost use Rattle.moving.specs.OneMove.{Movable};
 ghost use Rattle.moving.specs.RunMoves.{Runnable, RanWords};
 ghost use Rattle.moving.specs.Moved.{Moved, uncounted, Possible, CallsFor, Facing, Takes, HasLeft, liveIn, restsBy, restsIn};
-ghost use Rattle.moving.specs.Settled.{settled, Holding};
+ghost use Rattle.moving.specs.Settled.{settled, Holding, Topped};
 
 // Whether number c is live.
 pub(crate) fn is_live(area: &[u16], c: usize) -> bool
@@ -104,7 +103,7 @@ fn related(words: &[u16], matrix: &[u8], area: &[u16], c: usize, hand: Hand, a: 
 
 // The move of chunk c, a live one that is not at rest: rules 1 and 2 here, the others where the stack has a terminal.
 fn next_move(words: &[u16], matrix: &[u8], area: &[u16], c: usize, hand: Hand) -> Move
-    requires { ⌜ Movable (now words) (now matrix) (settled (now area) c hand) c × Holding (now area) c hand ⌝ }
+    requires { ⌜ Movable (now words) (now matrix) (settled (now area) c hand) c × Holding (now area) c hand × Topped (now area) hand ⌝ }
     ensures { λ r. ⌜ CallsFor (now (words .entry)) (now (matrix .entry)) (settled (now (area .entry)) c hand) c r ⌝ }
 {
     let from = hand.from as usize;
@@ -116,16 +115,17 @@ fn next_move(words: &[u16], matrix: &[u8], area: &[u16], c: usize, hand: Hand) -
         }
         return Move::Push(0);
     }
-    if let Top::Terminal(a) = moves::top_terminal(area, hand.base, from, head) {
-        return related(words, matrix, area, c, hand, a, b);
+    if hand.top < 256 {
+        return related(words, matrix, area, c, hand, hand.top as u16, b);
     }
     Move::Push(0)
 }
 
 // This move of chunk c, not yet counted; what is at hand after it.
 fn moved(area: &mut [u16], c: usize, mut hand: Hand, next: Move) -> Hand
-    requires { ⌜ Possible (settled (now area) c hand) c next × Holding (now area) c hand ⌝ }
+    requires { ⌜ Possible (settled (now area) c hand) c next × Holding (now area) c hand × Topped (now area) hand ⌝ }
     ensures { λ r. ⌜ (settled (now (area .exit)) c r ≡ uncounted (settled (now (area .entry)) c hand) c next) × Holding (now (area .exit)) c r × (r .moves ≡ hand .moves) ⌝ }
+    ensures { λ r. ⌜ Topped (now (area .exit)) r ⌝ }
 {
     match next {
         Move::Push(mark) => moves::push(area, c, hand, mark),
@@ -140,9 +140,9 @@ fn moved(area: &mut [u16], c: usize, mut hand: Hand, next: Move) -> Hand
 
 // One move of chunk c, a live one that is not at rest; what is at hand after it.
 fn make_move(words: &[u16], matrix: &[u8], area: &mut [u16], c: usize, hand: Hand) -> Hand
-    requires { ⌜ Movable (now words) (now matrix) (settled (now area) c hand) c × Holding (now area) c hand ⌝ }
+    requires { ⌜ Movable (now words) (now matrix) (settled (now area) c hand) c × Holding (now area) c hand × Topped (now area) hand ⌝ }
     ensures { λ r. ⌜ Moved (now (words .entry)) (now (matrix .entry)) (settled (now (area .entry)) c hand) c (settled (now (area .exit)) c r) ⌝ }
-    ensures { λ r. ⌜ Holding (now (area .exit)) c r × (r .moves ≡ hand .moves + 1) ⌝ }
+    ensures { λ r. ⌜ Holding (now (area .exit)) c r × (r .moves ≡ hand .moves + 1) × Topped (now (area .exit)) r ⌝ }
 {
     let next = next_move(words, matrix, area, c, hand);
     let mut after = moved(area, c, hand, next);
@@ -163,6 +163,7 @@ fn moves_until(
     ensures { λ r. ⌜ RanWords (now (words .entry)) (now (matrix .entry)) (settled (now (area .entry)) c hand) c budget (r .moves - hand .moves) (settled (now (area .exit)) c r) ⌝ }
     ensures { λ r. ⌜ Holding (now (area .exit)) c r × (hand .moves ≤ r .moves) ⌝ }
 {
+    hand.top = moves::top_terminal(area, hand.base, hand.from as usize, hand.head as usize) as u32;
     let mut made: u32 = 0;
     while made < budget {
         if resting(hand) {

@@ -6,7 +6,6 @@ use moving::Hand;
 use moving::Handle;
 use moving::Matched;
 use moving::Next;
-use moving::Top;
 ghost use mathlib.Core.Path.{_≡_};
 ghost use Prim.Native.Nat.{_+_, _*_, _-_, _≤_, _<_};
 ghost use lib.ListN.{length, getD};
@@ -14,10 +13,10 @@ ghost use Rattle.layout.specs.Layout.{slotsAt, slotWord, madeAtWord, tableAt, r
 ghost use Rattle.moving.specs.MoveWords.{tickWords, putWords, endedWords, unmarkWords, joinWords};
 ghost use Rattle.moving.specs.MoveWords.{clearedWords, overWords, entryWords, madeWords};
 ghost use Rattle.moving.specs.MoveWords.{Ticks, Pushable, Acceptable, Joinable, Laid, Reducible};
-ghost use Rattle.moving.specs.MoveWords.{slotAt};
+ghost use Rattle.moving.specs.MoveWords.{slotAt, fromOf};
 ghost use Rattle.moving.specs.AtHand.{AtHand};
-ghost use Rattle.moving.specs.Settled.{settled, Holding};
-ghost use Rattle.moving.specs.ReadWords.{Stacked, EndsBlock, startSlot, TopIs, NonterminalOnTop, EndAndAxiom, HandleIs, nextOf, liveAfter};
+ghost use Rattle.moving.specs.Settled.{settled, Holding, Topped};
+ghost use Rattle.moving.specs.ReadWords.{Stacked, EndsBlock, startSlot, TopIs, topAfter, NonterminalOnTop, EndAndAxiom, HandleIs, nextOf, liveAfter};
 ghost use Rattle.moving.specs.MatchWords.{Readable, Whole, handleWords, matchWords, matchedOf};
 ghost use Rattle.language.specs.Words.{countR, entry, bodyEnd};
 
@@ -45,7 +44,7 @@ fn moves_of(area: &[u16]) -> u32
     (area[2] as u32) + 65536 * (area[3] as u32)
 }
 
-// What the area holds of chunk c.
+// What the area holds of chunk c. Its topmost terminal is not looked for.
 pub(crate) fn hand_of(area: &[u16], c: usize) -> Hand
     requires { ⌜ (c < getD (now area) 1 0) × (slotsAt (now area) ≤ length (now area)) ⌝ }
     ensures { λ r. ⌜ AtHand (now (area .entry)) c r ⌝ }
@@ -59,6 +58,7 @@ pub(crate) fn hand_of(area: &[u16], c: usize) -> Hand
         reductions: area[4] as u32,
         moves: moves_of(area),
         base: 5 + 5 * (area[1] as usize),
+        top: 256,
     }
 }
 
@@ -72,12 +72,24 @@ fn tick(area: &mut [u16], moves: u32)
     area[3] = (more / 65536) as u16;
 }
 
+// The word of the topmost terminal once a symbol of word b is put on.
+fn top_after(b: u16, top: u32) -> u32
+    ensures { λ r. ⌜ r ≡ topAfter b top ⌝ }
+{
+    if b < 256 {
+        return b as u32;
+    }
+    top
+}
+
 // Puts chunk c's next unread symbol on its stack, with this mark (0 or 1); the move is not yet counted.
 pub(crate) fn push(area: &mut [u16], c: usize, mut hand: Hand, mark: u16) -> Hand
-    requires { ⌜ Pushable (settled (now area) c hand) c mark × Holding (now area) c hand ⌝ }
+    requires { ⌜ Pushable (settled (now area) c hand) c mark × Holding (now area) c hand × Topped (now area) hand ⌝ }
     ensures { λ r. ⌜ (settled (now (area .exit)) c r ≡ putWords (settled (now (area .entry)) c hand) c mark) × Holding (now (area .exit)) c r × (r .moves ≡ hand .moves) ⌝ }
+    ensures { λ r. ⌜ Topped (now (area .exit)) r ⌝ }
 {
     let slot = hand.base + 4 * (hand.head as usize);
+    hand.top = top_after(area[slot + 0], hand.top);
     hand.head += area[slot + 2];
     hand.marks += mark as u32;
     area[slot + 1] = mark;
@@ -98,8 +110,9 @@ fn zero(area: &mut [u16], at: usize, count: usize)
 
 // Chunk c reads the # of the end, its stack unchanged; the move is not yet counted.
 pub(crate) fn accept(area: &mut [u16], c: usize, mut hand: Hand) -> Hand
-    requires { ⌜ Acceptable (settled (now area) c hand) c × Holding (now area) c hand ⌝ }
+    requires { ⌜ Acceptable (settled (now area) c hand) c × Holding (now area) c hand × Topped (now area) hand ⌝ }
     ensures { λ r. ⌜ (settled (now (area .exit)) c r ≡ endedWords (settled (now (area .entry)) c hand) c) × Holding (now (area .exit)) c r × (r .moves ≡ hand .moves) ⌝ }
+    ensures { λ r. ⌜ Topped (now (area .exit)) r ⌝ }
 {
     hand.end -= 1;
     zero(area, hand.base + 4 * (hand.end as usize), 4);
@@ -187,11 +200,13 @@ pub(crate) fn reduce(
     symbol: u16,
     rule: u16,
 ) -> Hand
-    requires { ⌜ Reducible (settled (now area) c hand) c from × Holding (now area) c hand ⌝ }
+    requires { ⌜ Reducible (settled (now area) c hand) c from × Holding (now area) c hand × Stacked (settled (now area) c hand) (fromOf (settled (now area) c hand) c) from × (256 ≤ symbol) ⌝ }
     ensures { λ r. ⌜ (settled (now (area .exit)) c r ≡ madeWords (settled (now (area .entry)) c hand) c from symbol rule) × Holding (now (area .exit)) c r × (r .moves ≡ hand .moves) ⌝ }
+    ensures { λ r. ⌜ Topped (now (area .exit)) r ⌝ }
 {
     let head = hand.head;
     let made = hand.reductions;
+    hand.top = top_terminal(area, hand.base, hand.from as usize, from as usize) as u32;
     hand.marks -= 1;
     hand.reductions = made + 1;
     lay(area, hand.base, from, head, symbol);
@@ -234,8 +249,8 @@ pub(crate) fn nonterminal_on_top(area: &[u16], base: usize, from: usize, end: us
     256 <= slot_word(area, base, block_start(area, base, end), 0)
 }
 
-// The topmost terminal of the stack on the slots from `from` up to `head`.
-pub(crate) fn top_terminal(area: &[u16], base: usize, from: usize, head: usize) -> Top
+// The word of the topmost terminal of the stack on the slots from `from` up to `head`; 256 where it has none.
+pub(crate) fn top_terminal(area: &[u16], base: usize, from: usize, head: usize) -> u16
     requires { ⌜ (base ≡ slotsAt (now area)) × Stacked (now area) from head ⌝ }
     ensures { λ r. ⌜ TopIs (now (area .entry)) from head r ⌝ }
 {
@@ -244,10 +259,10 @@ pub(crate) fn top_terminal(area: &[u16], base: usize, from: usize, head: usize) 
         at = block_start(area, base, at);
         let word = slot_word(area, base, at, 0);
         if word < 256 {
-            return Top::Terminal(word);
+            return word;
         }
     }
-    Top::NoTerminal
+    256
 }
 
 // The handle of the stack on the slots from `from` up to `head`: it starts with the topmost mark, or with the nonterminal just below it; at

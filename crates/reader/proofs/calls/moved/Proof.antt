@@ -11,7 +11,7 @@ enum-known-next c = search needs
 push-requires : tie.Need-push-requires
 push-requires c κs =
     let s = c .before .before .before .before .before in
-    (rw (c .before .before .next .given .1) at (s .pre .0), s .pre .1)
+    (rw (c .before .before .next .given .1) at (s .pre .0), s .pre .1, s .pre .2)
 
 enum-known-next-2 : tie.Need-enum-known-next-2
 enum-known-next-2 c = search needs
@@ -22,7 +22,7 @@ enum-told c = search needs
 accept-requires : tie.Need-accept-requires
 accept-requires c κs =
     let s = c .before .before .before .before in
-    (rw (c .before .enum-told .given .1) at (s .pre .0), s .pre .1)
+    (rw (c .before .enum-told .given .1) at (s .pre .0), s .pre .1, s .pre .2)
 
 enum-known-next-3 : tie.Need-enum-known-next-3
 enum-known-next-3 c = search needs
@@ -30,7 +30,8 @@ enum-known-next-3 c = search needs
 reduce-requires : tie.Need-reduce-requires
 reduce-requires c κs =
     let s = c .before .before .before .before .before in
-    (rw (c .before .before .next3 .given .1) at (s .pre .0), s .pre .1)
+    let p = rw (c .before .before .next3 .given .1) at (s .pre .0) in
+    (p .0, s .pre .1, p .1, p .2)
 
 same-length : tie.Need-same-length
 same-length c = c .before .before .push .kept .0
@@ -42,7 +43,7 @@ returns-2 : tie.Need-returns-2
 returns-2 c =
     let s = c .before .before .before .before in
     let r = settled-stuck (s .pre .1) _ (rw (c .before .next2 .given .1) at (s .pre .0)) in
-    rw (c .before .next2 .given .1) (r .0, r .1, refl)
+    rw (c .before .next2 .given .1) ((r .0, r .1, refl), s .pre .2)
 
 same-length-2 : tie.Need-same-length-2
 same-length-2 c = c .before .before .accept .kept .0

@@ -1,7 +1,7 @@
 -- `moves::accept` meets its contract: the slot put to 0, and the `end` at hand, are `endedWords`.
 use native.Mathlib.Omega.{arith}
 use mathlib.Core.Path.{refl}
-use Rattle.moving.specs.Settled.{accept-fits, settled-accepted}
+use Rattle.moving.specs.Settled.{accept-fits, settled-accepted, top-ended}
 use Rattle.reader.proofs.moves.accept.Statement.{statement}
 use Rattle.reader.proofs.moves.accept.Tie as tie
 
@@ -38,8 +38,10 @@ same-length c = c .before .before .zero .kept .0
 returns : tie.Need-returns
 returns c =
     let s = c .before .before .before .before .before .before .before .before in
-    let k = rw (← s .pre .1 .base) at (settled-accepted (s .pre .1) (s .pre .0)) in
-    rw (c .before .before .zero .ensures) (k .0, k .1, refl)
+    let p = s .pre in
+    let k = rw (← p .1 .base) at (settled-accepted (p .1) (p .0)) in
+    let t = rw (← p .1 .base) at (top-ended (p .1) (p .0) (p .2)) in
+    rw (c .before .before .zero .ensures) ((k .0, k .1, refl), t)
 
 pub accept-spec : {M : Type 1} → statement M
 accept-spec =

@@ -1,6 +1,6 @@
 -- `moves::top_terminal` meets its contract: the loop's invariant: whatever stack stands there, its topmost terminal is in what is left (`Down`). The measure is `at`.
 use Rattle.moving.specs.Walks.{Down, down-begins, down-none, down-ends, top-found, top-more}
-use Rattle.moving.specs.ReadWords.{Holds, topOf}
+use Rattle.moving.specs.ReadWords.{Holds, topWord}
 use Rattle.machine.specs.Entries.{Entry, topTerminal}
 use Rattle.language.specs.Trees.{Span}
 use mathlib.Core.List.{List}
@@ -49,7 +49,7 @@ loop-again c =
     λ stack h. rw e (top-more (c .before .before .before .before .loop .inv stack h) (c .before .before .before .loop-test .taken) w)
 
 returns-2 : tie.Need-returns-2 Inv-loop μ-loop
-returns-2 c = record { found = λ stack h. sym (ap topOf (down-none _ topTerminal (c .before .loop .inv stack h) (c .loop-test .left))) }
+returns-2 c = record { found = λ stack h. sym (ap topWord (down-none _ topTerminal (c .before .loop .inv stack h) (c .loop-test .left))) }
 
 pub top-terminal-spec : {M : Type 1} → statement M
 top-terminal-spec =
