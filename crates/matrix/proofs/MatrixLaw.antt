@@ -1,12 +1,11 @@
 -- What the proofs of this crate's functions share: what the answer to 1 to 3 makes of the rules; the tests of a byte, which the code joins
--- by `|`, are the choice that GrammarShape states; what a test of a run of bytes tells, one byte more, of a row, and of all.
--- Rests on specs' GrammarShape and Tells.
+-- by `|`, are the choice that GrammarShape states; what a test of a run of bytes tells of a row, and of all.
+-- Rests on specs' GrammarShape, ByteTests and EndMarkOfShape, and on laws' Looks.
 --
--- Main statements: passed, refused; byte-corner, byte-first, byte-last, byte-inner; byte-here; tells-none, run-more, tells-more,
--- tells-not, row-told; short-fails, rows-more, part-fails, whole-told.
+-- Main statements: passed, refused; byte-corner, byte-first, byte-last, byte-inner; byte-here; row-told; short-fails, rows-more, part-fails, whole-told.
 use mathlib.Core.Path.{_≡_, refl, sym, ap, _∙_}
 use mathlib.Core.Logic.{_⊎_, inl, inr}
-use mathlib.Core.Bool.{Bool, true, false, _&&_, _||_, false≢true}
+use mathlib.Core.Bool.{Bool, true, false, _||_}
 use mathlib.Core.List.{List}
 use Prim.Native.Nat.{ℕ, _+_, _*_, _/_, _%_, _<_, _≤_}
 use native.Mathlib.Omega.{arith}
@@ -14,7 +13,8 @@ use native.Mathlib.Decide.{decLt}
 use lib.Dec.{leb, ltb, eqb}
 use lib.ListN.{length, getD}
 use borrow.Author.Tests.{eq-eqb, ne-eqb, lt-leb, le-leb, lt-ltb, le-ltb}
-use Rattle.laws.specs.Tests.{all, upTo, each-all, all-each, upTo-below, below-upTo, false-unless, not-both, same-test, and-both, both-and}
+use Rattle.laws.specs.Tests.{all, upTo, false-unless, not-both, same-test}
+use Rattle.laws.specs.Looks.{TellsAll}
 use Rattle.laws.specs.Picks.{pick, both-pick}
 use Rattle.refusals.specs.declared.Refusal.{Refusal}
 use Rattle.refusals.specs.declared.Answer.{Answer}
@@ -22,7 +22,8 @@ use Rattle.refusals.specs.declared.Answer.the-variants.{Done, Refused}
 use Rattle.language.specs.Words.{countT}
 use Rattle.language.specs.Checks.{checkSymbols}
 use Rattle.matrix.specs.GrammarShape.{isDone, byteFits, ruleB, grammarInShape}
-use Rattle.matrix.specs.Tells.{TellsAll, byteAt, zeroAt}
+use Rattle.matrix.specs.ByteTests.{byteAt, zeroAt}
+use Rattle.matrix.specs.EndMarkOfShape.{each-bytes, byte-fits}
 
 -- ---- (a)
 
@@ -64,27 +65,6 @@ module _ (a b x t : ℕ) (h : a ≤ t) (k : b ≤ t) where
 -- ---- (b), a run of bytes
 
 module _ (test : ℕ → Bool) where
-  pub tells-none : (from : ℕ) → TellsAll test from from true
-  tells-none from = (λ e v i j. absurd (omega arith), λ p. refl)
-
-  -- one place more
-  pub run-more : (from at : ℕ) → ((v : ℕ) → from ≤ v → v < at → test v ≡ true) → test at ≡ true → (v : ℕ) → from ≤ v → v < at + 1 → test v ≡ true
-  run-more from at before here v i j = place (decLt v at)
-    where
-      place : Dec (v < at) → test v ≡ true
-      place (yes l) = before v i l
-      place (no l) = let e : v ≡ at = omega arith in rw e here
-
-  pub tells-more : (from at : ℕ) (r : Bool) → from ≤ at → TellsAll test from at r → TellsAll test from (at + 1) (r && test at)
-  tells-more from at r h tells = (
-    λ e. let p = and-both r (test at) e in run-more from at (tells .0 (p .0)) (p .1),
-    λ p. both-and r (test at) (tells .1 (λ v i j. p v i (omega arith))) (p at h (omega arith)),
-  )
-
-  -- a place that fails
-  pub tells-not : (from end v : ℕ) → from ≤ v → v < end → test v ≡ false → TellsAll test from end false
-  tells-not from end v i j e = (λ p. absurd (false≢true p), λ p. absurd (not-both (test v) (p v i j) e))
-
   -- the places before mid pass, and from there on another test tells the same
   rest-told : (other : ℕ → Bool) (from mid end : ℕ) (r : Bool) → from ≤ mid → ((v : ℕ) → from ≤ v → v < mid → test v ≡ true)
       → ((v : ℕ) → mid ≤ v → v < end → other v ≡ test v) → TellsAll other mid end r → TellsAll test from end r
@@ -94,18 +74,6 @@ module _ (test : ℕ → Bool) where
       place : r ≡ true → (v : ℕ) → from ≤ v → v < end → Dec (v < mid) → test v ≡ true
       place e v i j (yes l) = before v i l
       place e v i j (no l) = sym (same v (omega arith) j) ∙ tells .0 e v (omega arith) j
-
-second : (a b : Bool) → pick a b false ≡ true → b ≡ true
-second true b e = e
-second false b e = absurd (false≢true e)
-
--- all of the first k, as GrammarShape says it
-module _ (test : ℕ → Bool) (k : ℕ) where
-  all-pass : ((v : ℕ) → v < k → test v ≡ true) → all test (upTo k) ≡ true
-  all-pass h = each-all test (upTo k) (λ v m. h v (upTo-below k v m))
-
-  each-passes : all test (upTo k) ≡ true → (v : ℕ) → v < k → test v ≡ true
-  each-passes p v h = all-each test (below-upTo k v h) p
 
 module _ (t : ℕ) (matrix : List ℕ) where
   pub byte-here : (a b : ℕ) → b < 64 → byteAt t matrix (64 * a + b) ≡ byteFits t a b (getD matrix (64 * a + b) 0)
@@ -143,12 +111,9 @@ module _ (t : ℕ) (matrix : List ℕ) where
   pub short-fails : length matrix < 4096 → ruleB t matrix ≡ false
   short-fails h = ap (λ (b : Bool). pick b (all (byteAt t matrix) (upTo 4096)) false) (lt-leb 4096 (length matrix) h)
 
-  each-fits : ruleB t matrix ≡ true → (v : ℕ) → v < 4096 → byteAt t matrix v ≡ true
-  each-fits e = each-passes (byteAt t matrix) 4096 (second (leb 4096 (length matrix)) (all (byteAt t matrix) (upTo 4096)) e)
-
   -- a part of them that does not fit
   pub part-fails : (from end : ℕ) (r : Bool) → end ≤ 4096 → TellsAll (byteAt t matrix) from end r → r ≡ false → ruleB t matrix ≡ false
-  part-fails from end r h tells e = false-unless (ruleB t matrix) (λ p. not-both r (tells .1 (λ v i j. each-fits p v (omega arith))) e)
+  part-fails from end r h tells e = false-unless (ruleB t matrix) (λ p. not-both r (tells .1 (λ v i j. byte-fits t matrix p v (omega arith))) e)
 
   -- all of them, where the rows up to t fit
   pub whole-told : (a : ℕ) (r : Bool) → 4096 ≤ length matrix → t < a → ((v : ℕ) → v < 64 * a → byteAt t matrix v ≡ true)
@@ -157,5 +122,5 @@ module _ (t : ℕ) (matrix : List ℕ) where
       let tells = rest-told (byteAt t matrix) (zeroAt matrix) 0 (64 * a) 4096 r (omega arith) (λ v i j. before v j) (λ v i j. past v (inl (omega arith))) zeros in
       same-test r (ruleB t matrix)
       (λ e. both-pick (leb 4096 (length matrix)) (all (byteAt t matrix) (upTo 4096)) (le-leb 4096 (length matrix) long)
-      (all-pass (byteAt t matrix) 4096 (λ v j. tells .0 e v (omega arith) j)))
-      (λ e. tells .1 (λ v i j. each-fits e v j))
+      (each-bytes (byteAt t matrix) 4096 (λ v j. tells .0 e v (omega arith) j)))
+      (λ e. tells .1 (λ v i j. byte-fits t matrix e v j))

@@ -4,7 +4,7 @@
 -- rules gets the move named above".
 -- Rests on GrammarShape and WordsOfShape, on machine's TableOf, and on language's Matrix and Loads.
 --
--- Main statements: end-mark-of-shape, grammar-in-shape, end-mark-in-shape, matrix-in-shape, own-shape.
+-- Main statements: each-bytes, byte-fits; end-mark-of-shape, grammar-in-shape, end-mark-in-shape, matrix-in-shape, own-shape.
 use mathlib.Core.Path.{_≡_, refl, sym, ap, _∙_}
 use mathlib.Core.Bool.{Bool, true, false}
 use mathlib.Core.Logic.{_⊎_, inl, inr}
@@ -34,7 +34,7 @@ use Rattle.matrix.specs.WordsOfShape.{rule-a-exactly}
 bytes-each : (test : ℕ → Bool) (k : ℕ) → all test (upTo k) ≡ true → (v : ℕ) → v < k → test v ≡ true
 bytes-each test k e v h = all-each test (below-upTo k v h) e
 
-each-bytes : (test : ℕ → Bool) (k : ℕ) → ((v : ℕ) → v < k → test v ≡ true) → all test (upTo k) ≡ true
+pub each-bytes : (test : ℕ → Bool) (k : ℕ) → ((v : ℕ) → v < k → test v ≡ true) → all test (upTo k) ≡ true
 each-bytes test k h = each-all test (upTo k) (λ v m. h v (upTo-below k v m))
 
 -- ---- what the bytes of # may be
@@ -99,7 +99,7 @@ from-equals (from-equal i e) q = i
 -- ---- any bytes that keep (b)
 
 module _ (t : ℕ) (bytes : List ℕ) (fits : ruleB t bytes ≡ true) where
-  byte-fits : (v : ℕ) → v < 4096 → byteFits t (v / 64) (v % 64) (getD bytes v 0) ≡ true
+  pub byte-fits : (v : ℕ) → v < 4096 → byteFits t (v / 64) (v % 64) (getD bytes v 0) ≡ true
   byte-fits = bytes-each (λ v. byteFits t (v / 64) (v % 64) (getD bytes v 0)) 4096
       (both (leb 4096 (length bytes)) (all (λ v. byteFits t (v / 64) (v % 64) (getD bytes v 0)) (upTo 4096)) fits .good)
 

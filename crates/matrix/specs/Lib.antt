@@ -1,4 +1,4 @@
+pub mod ByteTests
 pub mod EndMarkOfShape
 pub mod GrammarShape
-pub mod Tells
 pub mod WordsOfShape

@@ -4,7 +4,8 @@ ghost use mathlib.Core.Path.{_≡_};
 ghost use Prim.Native.Nat.{ℕ, _+_, _*_, _≤_, _<_};
 ghost use lib.ListN.{length};
 ghost use Rattle.matrix.specs.GrammarShape.{byteFits, grammarInShape};
-ghost use Rattle.matrix.specs.Tells.{TellsAll, byteAt, zeroAt};
+ghost use Rattle.laws.specs.Looks.{TellsAll};
+ghost use Rattle.matrix.specs.ByteTests.{byteAt, zeroAt};
 
 // A byte of the matrix, a over b, neither past t, the number of terminals: # over # is 2; # over b is 0 or 1; a over # is 0 or 3; any
 // other 0 to 3.

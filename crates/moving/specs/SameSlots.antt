@@ -11,15 +11,15 @@ use mathlib.Core.List.{List, [], _∷_, _++_}
 use native.Mathlib.Omega.{arith}
 use native.Mathlib.Decide.{decLt}
 use lib.Dec.{ltb}
-use lib.ListN.{length, getD, take, drop, set, length-set, length-drop, take-append-drop}
-use lib.Seq.{length-take-le, drop-at, ext-getD, getD-append-add, getD-drop, getD-set-other, getD-set-same, set-out}
+use lib.ListN.{length, getD, take, drop, set, length-set, length-drop}
+use lib.Seq.{length-take-le, ext-getD, getD-append-add, getD-drop, getD-set-other, getD-set-same, set-out}
 use Rattle.language.specs.Trees.{Span}
 use Rattle.machine.specs.Entries.{Entry}
 use Rattle.layout.specs.Layout.{zeros, slotsAt, slotWord}
 use Rattle.moving.specs.MoveWords.{slotAt, Stands, Laid, clearedWords, laidWords, overWords}
 use Rattle.moving.specs.ReadWords.{Holds, Stacked, TopIs, NonterminalOnTop, EndAndAxiom, HandleIs}
 use Rattle.moving.specs.MatchWords.{symbolWords, handleWords, Whole, no-block, a-block}
-use Rattle.moving.specs.StackWords.{within-area}
+use Rattle.moving.specs.StackWords.{stands-alike}
 use Rattle.moving.specs.Ready.{cleared-before, cleared-length}
 
 pub record SameSlots (area other : List ℕ) : Type 0 where
@@ -41,18 +41,7 @@ module _ {area other : List ℕ} (m : SameSlots area other) where
   slot-same s k = m .words (slotAt area s + k) (omega arith) ∙ rw (m .chunks)
 
   stands-same : {i j : ℕ} {stack : List (Entry Span)} → slotsAt area ≤ i → Stands area i j stack → Stands other i j stack
-  stands-same {i} {j} {stack} l h =
-      let room : i ≤ length other = omega (arith, within-area stack h, h .stop, m .long) in
-      record {
-        below = take i other;
-        above = h .above;
-        is =
-            sym (take-append-drop i other)
-            ∙ ap (λ (w : List ℕ). take i other ++ w)
-            (sym (drop-same area other i (m .long) (λ k p. m .words k (omega arith))) ∙ ap (λ (w : List ℕ). drop i w) (h .is) ∙ drop-at (h .below) _ i (h .start));
-        start = length-take-le i other room;
-        stop = h .stop;
-      }
+  stands-same l = stands-alike (m .long) (λ k p q. m .words k (omega arith))
 
   pub laid-same : {i j : ℕ} → slotsAt area ≤ i → Laid area i j → Laid other i j
   laid-same l h = record { stack = h .stack; stands = stands-same l (h .stands) }

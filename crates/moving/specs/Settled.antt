@@ -160,14 +160,17 @@ module _ {area : List ℕ} {c : ℕ} {h : Hand} {v w : List ℕ} (s : Settles ar
   row-same (suc (suc (suc (suc zero)))) l = sym (s .hand .marks) ∙ t .hand .marks
   row-same (suc (suc (suc (suc (suc i))))) l = absurd (omega arith)
 
+  other-same : (j : ℕ) → Apart c j → getD v j 0 ≡ getD w j 0
+  other-same j n = s .others j n ∙ sym (t .others j n)
+
   word-same : (j : ℕ) → Dec (j < 2) → Dec (j < 5) → Dec (j < tableAt c 0) → Dec (j < tableAt c 5) → getD v j 0 ≡ getD w j 0
-  word-same j (yes a) b d e = let n : Apart c j = ((λ p q. omega arith), (λ p q. omega arith)) in s .others j n ∙ sym (t .others j n)
+  word-same j (yes a) b d e = other-same j ((λ p q. omega arith), (λ p q. omega arith))
   word-same j (no a) (yes b) d e = front-same j (omega arith) b
-  word-same j (no a) (no b) (yes d) e = let n : Apart c j = ((λ p q. omega arith), (λ p q. omega arith)) in s .others j n ∙ sym (t .others j n)
+  word-same j (no a) (no b) (yes d) e = other-same j ((λ p q. omega arith), (λ p q. omega arith))
   word-same j (no a) (no b) (no d) (yes e) =
       let q : j ≡ tableAt c (j - tableAt c 0) = omega arith in
       ap (λ (i : ℕ). getD v i 0) q ∙ row-same (j - tableAt c 0) (omega arith) ∙ ap (λ (i : ℕ). getD w i 0) (sym q)
-  word-same j (no a) (no b) (no d) (no e) = let n : Apart c j = ((λ p q. omega arith), (λ p q. omega arith)) in s .others j n ∙ sym (t .others j n)
+  word-same j (no a) (no b) (no d) (no e) = other-same j ((λ p q. omega arith), (λ p q. omega arith))
 
   settles-once : v ≡ w
   settles-once = ext-getD 0 v w (s .long ∙ sym (t .long)) (λ j l. word-same j (decLt j 2) (decLt j 5) (decLt j (tableAt c 0)) (decLt j (tableAt c 5)))

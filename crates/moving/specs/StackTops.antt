@@ -3,45 +3,23 @@
 -- Rests on ReadWords and StackWords.
 --
 -- Main statements: top-kept (nothing below the top changes), top-laid (a block more), below-stacked (what lies under a handle).
-use mathlib.Core.Path.{_≡_, sym, ap, _∙_}
+use mathlib.Core.Path.{_≡_, sym, _∙_}
 use mathlib.Core.List.{List, [], _∷_, _++_, append-assoc}
 use Prim.Native.Nat.{ℕ, _+_, _-_, _<_, _≤_}
 use native.Mathlib.Omega.{arith}
-use lib.ListN.{length, getD, take, drop, length-append, take-append-drop}
-use lib.Seq.{length-take-le, take-at, getD-take, ext-getD}
+use lib.ListN.{length, getD}
 use Rattle.laws.specs.Tests.{lt-ltb, le-ltb}
 use Rattle.language.specs.Trees.{Span}
 use Rattle.machine.specs.Entries.{Entry, terminalOn, nonterminalOn, topTerminal}
 use Rattle.layout.specs.Layout.{stackSize, stackWords, slotWord}
-use Rattle.layout.specs.Lengths.{length-stack}
-use Rattle.moving.specs.MoveWords.{slotAt, Stands}
+use Rattle.moving.specs.MoveWords.{slotAt}
 use Rattle.moving.specs.ReadWords.{Told, Holds, Stacked, lastWord, startSlot, topWord, TopIs, topAfter}
-use Rattle.moving.specs.StackWords.{within-area, stacked, slot-symbol, slot-under}
+use Rattle.moving.specs.StackWords.{stands-alike, stacked, slot-symbol, slot-under}
 use Rattle.moving.specs.HandleSlots.{stack-words}
 
 module _ {area other : List ℕ} (long : length area ≡ length other) where
-  -- what stands below a word stays while only words from there on change
-  stands-kept : {i j : ℕ} {stack : List (Entry Span)} → ((k : ℕ) → k < j → getD area k 0 ≡ getD other k 0) → Stands area i j stack → Stands other i j stack
-  stands-kept {i} {j} {stack} same h =
-      let room : j ≤ length area = within-area stack h in
-      let size : length (h .below ++ stackWords stack) ≡ j = omega (arith, length-append (h .below) (stackWords stack), length-stack stack, h .start, h .stop) in
-      let front : take j area ≡ h .below ++ stackWords stack =
-      ap (λ (w : List ℕ). take j w) (h .is ∙ sym (append-assoc (h .below) (stackWords stack) (h .above))) ∙ take-at (h .below ++ stackWords stack) (h .above) j size in
-      let fronts : take j other ≡ take j area =
-      ext-getD 0 (take j other) (take j area) (length-take-le j other (omega arith) ∙ sym (length-take-le j area room))
-      (λ k l.
-      let in-front : k < j = omega (arith, length-take-le j other (omega arith)) in
-      getD-take j other k 0 in-front ∙ sym (same k in-front) ∙ sym (getD-take j area k 0 in-front)) in
-      record {
-        below = h .below;
-        above = drop j other;
-        is = sym (take-append-drop j other) ∙ ap (λ (w : List ℕ). w ++ drop j other) (fronts ∙ front) ∙ append-assoc (h .below) (stackWords stack) (drop j other);
-        start = h .start;
-        stop = h .stop;
-      }
-
   holds-kept : {s e : ℕ} {stack : List (Entry Span)} → ((k : ℕ) → k < slotAt area e → getD area k 0 ≡ getD other k 0) → Holds area s e stack → Holds other s e stack
-  holds-kept same h = record { stands = rw (same 1 (omega arith)) at (stands-kept same (h .stands)); told = h .told }
+  holds-kept same h = record { stands = rw (same 1 (omega arith)) at (stands-alike {other = other} long (λ k p. same k) (h .stands)); told = h .told }
 
 module _ {area other : List ℕ} (long : length area ≡ length other) {s : ℕ} where
   pub top-kept : {e top : ℕ} → ((k : ℕ) → k < slotAt area e → getD area k 0 ≡ getD other k 0) → TopIs area s e top → TopIs other s e top

@@ -2,13 +2,14 @@
 -- docs/AREA.md: a stack stands bottom first, each symbol one block.
 -- Rests on MoveWords, ReadWords and BlockWords, and on layout's Lengths.
 --
--- Main statements: within-area, top-symbol, top-mark, top-front, top-size, top-start, under, top-cleared; the same on
+-- Main statements: within-area, stands-alike, top-symbol, top-mark, top-front, top-size, top-start, under, top-cleared; the same on
 -- slots: stacked, slot-symbol, slot-mark, slot-start, slot-ends, slot-under.
-use mathlib.Core.Path.{_≡_, refl, ap, _∙_}
+use mathlib.Core.Path.{_≡_, refl, sym, ap, _∙_}
 use mathlib.Core.List.{List, _∷_, _++_, append-assoc}
-use Prim.Native.Nat.{ℕ, _+_, _*_, _-_, _≤_}
+use Prim.Native.Nat.{ℕ, _+_, _*_, _-_, _<_, _≤_}
 use native.Mathlib.Omega.{arith}
-use lib.ListN.{length, getD, length-append}
+use lib.ListN.{length, getD, take, drop, length-append, length-drop, take-append-drop}
+use lib.Seq.{length-take-le, take-at, drop-at, getD-take, getD-drop, ext-getD}
 use Rattle.language.specs.Symbols.{wordOf}
 use Rattle.language.specs.Trees.{Span}
 use Rattle.machine.specs.Entries.{Entry, terminalOn, nonterminalOn, symbol, unmarked}
@@ -29,6 +30,32 @@ within-area stack h =
       length-append (stackWords stack) (h .above),
       length-stack stack,
     )
+
+-- where two areas have the same words from i up to j, the same stack stands there
+pub stands-alike : {area other : List ℕ} {i j : ℕ} {stack : List (Entry Span)} → length area ≡ length other
+    → ((k : ℕ) → i ≤ k → k < j → getD area k 0 ≡ getD other k 0) → Stands area i j stack → Stands other i j stack
+stands-alike {area} {other} {i} {j} {stack} long same h =
+    let room : j ≤ length area = within-area stack h in
+    let there : (l : List ℕ) → length l ≡ length area → length (take (j - i) (drop i l)) ≡ j - i =
+    λ l e. length-take-le (j - i) (drop i l) (omega (arith, length-drop i l)) in
+    let words : take (j - i) (drop i area) ≡ stackWords stack =
+    ap (λ (w : List ℕ). take (j - i) w) (ap (λ (w : List ℕ). drop i w) (h .is) ∙ drop-at (h .below) (stackWords stack ++ h .above) i (h .start))
+    ∙ take-at (stackWords stack) (h .above) (j - i) (omega (arith, length-stack stack, h .stop)) in
+    let parts : take (j - i) (drop i other) ≡ take (j - i) (drop i area) =
+    ext-getD 0 (take (j - i) (drop i other)) (take (j - i) (drop i area)) (there other (sym long) ∙ sym (there area refl))
+    (λ k l.
+    let in-part : k < j - i = omega (arith, there other (sym long)) in
+    getD-take (j - i) (drop i other) k 0 in-part ∙ getD-drop i other k 0 ∙ sym (same (i + k) (omega arith) (omega arith))
+    ∙ sym (getD-take (j - i) (drop i area) k 0 in-part ∙ getD-drop i area k 0)) in
+    record {
+      below = take i other;
+      above = drop (j - i) (drop i other);
+      is =
+          sym (take-append-drop i other)
+          ∙ ap (λ (w : List ℕ). take i other ++ w) (sym (take-append-drop (j - i) (drop i other)) ∙ ap (λ (w : List ℕ). w ++ drop (j - i) (drop i other)) (parts ∙ words));
+      start = length-take-le i other (omega (arith, room, h .stop));
+      stop = h .stop;
+    }
 
 module _ {area : List ℕ} {i j : ℕ} (x : Entry Span) (stack : List (Entry Span)) (h : Stands area i j (x ∷ stack)) where
   abbrev p : List ℕ

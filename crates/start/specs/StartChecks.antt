@@ -3,13 +3,11 @@
 -- Document 01: "Start checks 15 .., 7, 8, 9, 10, 11"; the table's "first such place" and "63, else first bad cut's index".
 -- Rests on Start and StartKept, on laws' Least, and on language's Stages.
 --
--- Main definitions: placeBelow, badTokens, badCuts, TellsBad, Writable.
--- Main statements: stopped, passed (what a search has found); tells-none, tells-more (what a look at all places tells); the answer, check
--- by check: broken-grammar, no-token, many-tokens, bad-token, bad-cut, small-room, enough-room; writable, right-cuts (what holds where nothing
--- is refused).
+-- Main definitions: placeBelow, badTokens, badCuts, fitsAt, Writable.
+-- Main statements: stopped, passed (what a search has found); the answer, check by check: broken-grammar, no-token, many-tokens, bad-token,
+-- bad-cut, small-room, enough-room; writable, right-cuts (what holds where nothing is refused).
 use mathlib.Core.Path.{_≡_, refl, sym, ap, _∙_}
-use mathlib.Core.Bool.{Bool, true, false, _||_, false≢true, true≢false}
-use mathlib.Core.Logic.{_↔_}
+use mathlib.Core.Bool.{Bool, true, false, not, _||_, false≢true}
 use mathlib.Core.List.{List, [], _∷_}
 use mathlib.Core.Option.{Option, none, some}
 use Prim.Native.Nat.{ℕ, _+_, _≤_, _<_}
@@ -60,27 +58,9 @@ module _ (bad : ℕ → Bool) (n i : ℕ) (clear : Clear bad i) where
   pub passed : n ≤ i → firstBelow bad n ≡ placeBelow i n
   passed h = first-nowhere bad n i h clear ∙ sym (place-beyond h)
 
--- a look at all places that has no exit: it tells whether one of the first n is bad
-abbrev pub TellsBad : (ℕ → Bool) → ℕ → Bool → Type 0
-TellsBad bad n found = (found ≡ false) ↔ Clear bad n
-
-module _ (bad : ℕ → Bool) where
-  pub tells-none : TellsBad bad 0 false
-  tells-none = (λ e k h. absurd (omega arith), λ clear. refl)
-
-  pub tells-more : (i : ℕ) (found : Bool) → TellsBad bad i found → TellsBad bad (i + 1) (found || bad i)
-  tells-more i found tells = (
-    λ e. let p = neither found (bad i) e in clear-more bad i (tells .0 (p .0)) (p .1),
-    λ clear. both found (bad i) (tells .1 (λ k h. clear k (omega arith))) (clear i (omega arith)),
-  )
-    where
-      neither : (a b : Bool) → (a || b) ≡ false → (a ≡ false) × (b ≡ false)
-      neither true b e = absurd (true≢false e)
-      neither false b e = (refl, e)
-
-      both : (a b : Bool) → a ≡ false → b ≡ false → (a || b) ≡ false
-      both true b p q = p
-      both false b p q = q
+-- the token at place i is within 1..t
+abbrev pub fitsAt : ℕ → List ℕ → ℕ → Bool
+fitsAt t tokens i = not (badTokenAt t tokens i)
 
 module _ (n : ℕ) (cuts : List ℕ) where
   -- a cut is bad by the two tests that the code joins

@@ -5,30 +5,30 @@ ghost use Prim.Native.Nat.{ℕ, _+_, _*_, _≤_};
 ghost use lib.ListN.{length, getD};
 ghost use lib.Seq.{sets};
 ghost use Rattle.layout.specs.Layout.{zeros};
-ghost use Rattle.start.specs.Start.{badTokenAt};
-ghost use Rattle.start.specs.StartChecks.{placeBelow, TellsBad, badTokens, badCuts, Writable};
+ghost use Rattle.laws.specs.Looks.{TellsAll};
+ghost use Rattle.start.specs.StartChecks.{placeBelow, fitsAt, badTokens, badCuts, Writable};
 ghost use Rattle.start.specs.StartWords.{startRow, startRows, startSlot, startSlots, startWords};
 
-// 9: some token is outside 1..t: all of them are looked at, with no exit before the end.
-fn some_bad_token(tokens: &[u16], t: u16) -> bool
-    ensures { λ r. ⌜ TellsBad (badTokenAt t (now (tokens .entry))) (length (now (tokens .entry))) r ⌝ }
+// 9: every token is within 1..t: all of them are looked at, with no exit before the end.
+fn tokens_fit(tokens: &[u16], t: u16) -> bool
+    ensures { λ r. ⌜ TellsAll (fitsAt t (now (tokens .entry))) 0 (length (now (tokens .entry))) r ⌝ }
 {
-    let mut found = false;
+    let mut fit = true;
     let mut i = 0;
     while i < tokens.len() {
         let token = tokens[i];
         let bad = (token < 1) | (t < token);
-        found = found | bad;
+        fit = fit & !bad;
         i += 1;
     }
-    found
+    fit
 }
 
 // 9: the place of the first token outside 1..t, or else how many there are.
 pub(crate) fn first_bad_token(tokens: &[u16], t: u16) -> usize
     ensures { λ r. ⌜ badTokens t (now (tokens .entry)) ≡ placeBelow r (length (now (tokens .entry))) ⌝ }
 {
-    if !some_bad_token(tokens, t) {
+    if tokens_fit(tokens, t) {
         return tokens.len();
     }
     let mut i = 0;

@@ -2,8 +2,8 @@
 use mathlib.Core.Path.{_≡_}
 use native.Mathlib.Omega.{arith}
 use Prim.Native.Nat.{_-_, _≤_}
-use Rattle.matrix.specs.Tells.{TellsAll, zeroAt}
-use Rattle.matrix.proofs.MatrixLaw.{tells-none, tells-more}
+use Rattle.laws.specs.Looks.{TellsAll, tells-none, tells-more}
+use Rattle.matrix.specs.ByteTests.{zeroAt}
 use Rattle.matrix.proofs.all_zero.Statement.{statement}
 use Rattle.matrix.proofs.all_zero.Tie as tie
 

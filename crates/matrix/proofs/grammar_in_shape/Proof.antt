@@ -10,7 +10,7 @@ use lib.ListN.{length}
 use Rattle.language.specs.Words.{countT}
 use Rattle.matrix.specs.GrammarShape.{isDone, grammarInShape, ruleB}
 use Rattle.matrix.specs.WordsOfShape.{headed}
-use Rattle.matrix.specs.Tells.{byteAt}
+use Rattle.matrix.specs.ByteTests.{byteAt}
 use Rattle.matrix.proofs.MatrixLaw.{passed, refused, short-fails, part-fails, rows-more, whole-told}
 use Rattle.matrix.proofs.grammar_in_shape.Statement.{statement}
 use Rattle.matrix.proofs.grammar_in_shape.Tie as tie

@@ -4,8 +4,9 @@ use mathlib.Core.Bool.{true}
 use borrow.Author.Tests.{not-true, not-false}
 use native.Mathlib.Omega.{arith}
 use Prim.Native.Nat.{ℕ, _+_, _*_, _-_, _≤_, _<_}
-use Rattle.matrix.specs.Tells.{byteAt}
-use Rattle.matrix.proofs.MatrixLaw.{byte-here, run-more, tells-not, row-told}
+use Rattle.laws.specs.Looks.{run-more, tells-not}
+use Rattle.matrix.specs.ByteTests.{byteAt}
+use Rattle.matrix.proofs.MatrixLaw.{byte-here, row-told}
 use Rattle.matrix.proofs.row_fits.Statement.{statement}
 use Rattle.matrix.proofs.row_fits.Tie as tie
 

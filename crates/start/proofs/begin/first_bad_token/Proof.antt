@@ -15,14 +15,14 @@ Inv-loop tokens t i₀ i = Clear (badTokenAt t tokens) i
 abbrev μ-loop : tie.MeasureT-loop
 μ-loop tokens t i₀ i = length tokens - i
 
-some-bad-token-requires : tie.Need-some-bad-token-requires Inv-loop μ-loop
-some-bad-token-requires c κs = tt
+tokens-fit-requires : tie.Need-tokens-fit-requires Inv-loop μ-loop
+tokens-fit-requires c κs = tt
 
 returns : tie.Need-returns Inv-loop μ-loop
 returns c =
     let a = c .before .before .before .args in
     let n = length (a .tokens .now) in
-    passed (badTokenAt (a .t) (a .tokens .now)) n n (c .before .some-bad-token .ensures .0 (not-true (c .before .some-bad-token .result) (c .if1 .taken))) (omega arith)
+    passed (badTokenAt (a .t) (a .tokens .now)) n n (λ k h. not-true _ (c .before .tokens-fit .ensures .0 (c .if1 .taken) k (omega arith) h)) (omega arith)
 
 loop-holds : tie.Need-loop-holds Inv-loop μ-loop
 loop-holds c = λ k h. absurd (omega arith)
@@ -63,7 +63,7 @@ first-bad-token-spec =
     (tie.spec
     Inv-loop
     μ-loop
-    some-bad-token-requires
+    tokens-fit-requires
     returns
     loop-holds
     mul-token
