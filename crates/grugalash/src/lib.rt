@@ -1,6 +1,7 @@
 // The static library: each public call for a program in C or Rust, declared in include/grugalash.h. A run of words or bytes crosses as
 // an address and a length; an answer as its number, 0 on success, with its value written where the caller says. Each function answers,
 // and leaves what it was lent, as the public call does: its contract is an equation over the definitions that the call's own contract cites.
+#![tactic(auto)]
 mod answers;
 
 ghost use Rattle.std.specs.Prelude.{◌≡◌, length};

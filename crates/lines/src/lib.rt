@@ -1,6 +1,7 @@
 // The answer of `rows` as bytes: lines of decimal numbers in a lent run of bytes. Document 01, "Sample rows".
 // Each line goes to a place of the run; the answer is the place after it, or that place itself where the line has no room, and then
 // nothing is written.
+#![tactic(auto)]
 mod writing;
 
 ghost use Rattle.std.specs.Prelude.{◌≡◌};

@@ -1,6 +1,7 @@
 // The moves of a chunk and the join of two on the words of a lent work area, as theory: what they read and write there, that this is the
 // machine's move of the state that the words stand for, and what the calls that make them answer and leave. Here stand the types that this
 // speaks of, and the rest in specs/; the code of the moves is crate `reader`.
+#![tactic(auto)]
 
 // What a run has at hand of its chunk: the chunk's row of the table, the counts of reductions and of moves, the word where the slots start,
 // and the word of the topmost terminal of its stack (256 where it has none). The area holds the row and the counts once the run has ended.

@@ -1,4 +1,5 @@
 // The report of a finished row, and the tokens of one of its entries. Their meanings stand in specs/.
+#![tactic(auto)]
 mod order;
 mod outcome;
 

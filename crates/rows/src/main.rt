@@ -1,5 +1,6 @@
 // The program `rows`: a row's three lines from standard input, its answer to standard output. Document 01, "Sample rows".
 // input.rt reads the lines, schedule.rt moves the row, output.rt writes the answer; the text itself is the crate `text`, the lines of the answer are the crate `lines`.
+#![tactic(auto)]
 mod input;
 mod output;
 mod schedule;

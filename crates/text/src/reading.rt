@@ -17,7 +17,7 @@ const MOST_TOKENS: usize = 1024;
 const MOST_CUTS: usize = 64;
 
 // The line that is being read.
-#[derive(Drop)]
+#[derive(Clone, Copy)]
 pub enum Line {
     Words,
     Tokens,
@@ -25,7 +25,7 @@ pub enum Line {
 }
 
 // What stood last in it.
-#[derive(Drop)]
+#[derive(Clone, Copy)]
 pub enum Phase {
     // nothing yet
     Fresh,
@@ -40,7 +40,7 @@ pub enum Phase {
 }
 
 // How far a text has been read, and how many numbers of each line are in the buffers.
-#[derive(Drop)]
+#[derive(Clone, Copy)]
 pub struct State {
     pub line: Line,
     pub phase: Phase,

@@ -1,6 +1,7 @@
 // Runs many stored cases through the public calls and writes each answer. Standard input is a stream of 16-bit words, low byte
 // first, made by tools/call_vectors.py from the reference reader, and so is what it must write. A case is its kind and what its kind
 // asks; kind 6 is a grammar's words, under which the cases of kinds 0 to 5 after it stand.
+#![tactic(auto)]
 mod input;
 mod rows;
 mod shown;
