@@ -6,7 +6,7 @@
 -- Main definition: body_at. Main statements: at-start, at-end (the two places of equal bodies); start-absent, ends-short.
 use Rattle.std.specs.Prelude.{◌≡◌, refl, List, [], ◌∷◌, ℕ, zero, suc, ◌+◌, ◌≤◌, length}
 use Rattle.std.proofs.Common.{sym, ap, arith}
-use Rattle.language.specs.Words.{word, count_r, entry, body_end}
+use Rattle.language.specs.Words.{word, entry, body_end}
 use Rattle.words.specs.declared.Body.{Body}
 use Rattle.words.specs.Laid.{ends_last}
 

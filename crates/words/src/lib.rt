@@ -1,5 +1,6 @@
 // The grammar words: checks 1 to 5, and where a rule's body stands. Document 01, "The grammar words", "Refusal numbers".
 #![tactic(auto)]
+
 mod checks;
 
 ghost use Rattle.std.specs.Prelude.{◌≡◌};
