@@ -20,10 +20,13 @@ use Rattle.refusals.specs.declared.RunAnswer.{RunAnswer}
 use Rattle.refusals.specs.declared.ReportAnswer.{ReportAnswer}
 use Rattle.refusals.specs.Refusals.{number_of, answer_number, set_number, run_number, report_number}
 use Rattle.language.specs.Words.{count_t, count_n, grammar_of}
-use Rattle.language.specs.Stages.{Stage, checked, stages_of, Given, passes-all, fails, passes, none_left}
+use Rattle.language.specs.Stages.{Stage, checked, stages_of, Given, passes-all, fails, passes}
+use Rattle.language.proofs.Stages.{none_left}
 use Rattle.language.specs.Checks.{symbol_conditions, word_conditions, check_symbols, check_words}
-use Rattle.language.specs.Matrix.{matrix_of, matrix-length}
-use Rattle.language.specs.Loads.{NoRoomForMatrix, too_short, load_conditions, load_answer, loaded_bytes, load_bytes, accepted-exactly}
+use Rattle.language.specs.Matrix.{matrix_of}
+use Rattle.language.proofs.Matrix.{matrix-length}
+use Rattle.language.specs.Loads.{NoRoomForMatrix, too_short, load_conditions, load_answer, loaded_bytes, load_bytes}
+use Rattle.language.proofs.Loads.{accepted-exactly}
 use Rattle.language.specs.Loads.{set_conditions, set_checked, set_or_refusal, left_set_answer, right_set_answer}
 use Rattle.language.specs.Grammar.{Grammar, mirrored}
 use Rattle.language.specs.Reports.{report_words}
@@ -33,7 +36,7 @@ use Rattle.machine.specs.States
 use Rattle.machine.specs.States.{State, Called, refused, became, Ran, refused_run, ran, Outcome, refused_row, reported, refusal_of}
 use Rattle.machine.specs.TableOf.{table_of}
 use Rattle.machine.specs.Schedules.{Turned, by-step, by-join, Schedule, no-turn, one-turn}
-use Rattle.machine.specs.Counts.{made-scheduled, run-exactly}
+use Rattle.machine.proofs.Counts.{made-scheduled, run-exactly}
 use Rattle.machine.specs.Answers.{outcome_answer, outcome_out}
 use Rattle.layout.specs.Layout.{need, zeros, encode, decode, need_in}
 use Rattle.layout.specs.Lengths.{length-report, encode-length}

@@ -20,7 +20,7 @@ use Rattle.machine.specs.States.{State, step, join, live, Outcome, refused_row}
 use Rattle.machine.specs.Answers.{outcome_answer}
 use Rattle.machine.specs.Schedules.{Turned, by-step, by-join, Schedule, no-turn, one-turn}
 use Rattle.machine.specs.Allowed.{Live}
-use Rattle.machine.specs.AllowedExactly.{step-exactly, join-exactly}
+use Rattle.machine.proofs.AllowedExactly.{step-exactly, join-exactly}
 use Rattle.results.specs.Bounded.{most_moves}
 use Rattle.results.specs.Progress.{progress, answered-no-turn}
 use Rattle.layout.specs.Kept.{FirstLive, first_live}

@@ -25,33 +25,42 @@ use Rattle.refusals.specs.declared.ReportAnswer.{ReportAnswer}
 use Rattle.refusals.specs.declared.ReportAnswer.TheVariants as reports
 use Rattle.language.specs.Grammar.{Grammar, mirrored}
 use Rattle.language.specs.Words.{grammar_of}
-use Rattle.language.specs.Stages.{ready, finding, Given, given-exactly}
-use Rattle.language.specs.CheckHead.{head-finds}
-use Rattle.language.specs.CheckContents.{contents-finds}
-use Rattle.language.specs.CheckSymbols.{symbols-find}
-use Rattle.language.specs.CheckForm.{form-finds}
-use Rattle.language.specs.CheckTwins.{twins-find}
-use Rattle.language.specs.Checks.{symbol_conditions, word_conditions, check_symbols, check_words, words-ready}
-use Rattle.language.specs.Conflicts.{conflict-finds}
-use Rattle.language.specs.WordsInRange.{in-range}
+use Rattle.language.specs.Stages.{ready, finding, Given}
+use Rattle.language.proofs.Stages.{given-exactly}
+use Rattle.language.proofs.CheckHead.{head-finds}
+use Rattle.language.proofs.CheckContents.{contents-finds}
+use Rattle.language.proofs.CheckSymbols.{symbols-find}
+use Rattle.language.proofs.CheckForm.{form-finds}
+use Rattle.language.proofs.CheckTwins.{twins-find}
+use Rattle.language.specs.Checks.{symbol_conditions, word_conditions, check_symbols, check_words}
+use Rattle.language.proofs.Checks.{words-ready}
+use Rattle.language.proofs.Conflicts.{conflict-finds}
+use Rattle.language.proofs.WordsInRange.{in-range}
 use Rattle.language.specs.SetMasks.{left_set, left_size}
 use Rattle.language.specs.Matrix.{matrix_of}
-use Rattle.language.specs.Loads.{LoadInput, room-finds, load_conditions, load_answer, accepted-exactly}
-use Rattle.language.specs.Loads.{SetInput, nonterminal-finds, set_conditions, set_checked, set_or_refusal, left_set_answer, right_set_answer}
+use Rattle.language.specs.Loads.{LoadInput, load_conditions, load_answer}
+use Rattle.language.proofs.Loads.{room-finds, accepted-exactly}
+use Rattle.language.specs.Loads.{SetInput, set_conditions, set_checked, set_or_refusal, left_set_answer, right_set_answer}
+use Rattle.language.proofs.Loads.{nonterminal-finds}
 use Rattle.language.specs.Trees.{Span, Reduction}
 use Rattle.machine.specs.Moves.{Stuck}
 use Rattle.machine.specs.States.{State, Called, Ran, Outcome, refused_row, reported, refusal_of, outcome}
 use Rattle.machine.specs.States
 use Rattle.machine.specs.TableOf.{table_of}
 use Rattle.machine.specs.Allowed.{Live, Steps, JoinsAt}
-use Rattle.machine.specs.AllowedExactly.{StepView, no-such-chunk, was-at-rest, steps-so, step-view, step-exactly}
-use Rattle.machine.specs.AllowedExactly.{JoinView, no-left, no-right, left-moves, right-moves, joins-so, join-view, join-exactly}
+use Rattle.machine.specs.AllowedExactly.{StepView, no-such-chunk, was-at-rest, steps-so}
+use Rattle.machine.proofs.AllowedExactly.{step-view, step-exactly}
+use Rattle.machine.specs.AllowedExactly.{JoinView, no-left, no-right, left-moves, right-moves, joins-so}
+use Rattle.machine.proofs.AllowedExactly.{join-view, join-exactly}
 use Rattle.machine.specs.GivenExactly.{LiveAtRest, CannotJoin, no-live-right, left-not-at-rest, right-not-at-rest}
-use Rattle.machine.specs.GivenExactly.{step-no-chunk, step-at-rest}
-use Rattle.machine.specs.GivenExactly.{RunView, run-no-chunk-so, run-at-rest-so, runs_so, run-view, run-no-chunk, run-at-rest, join-no-chunk, no-join-exactly}
+use Rattle.machine.proofs.GivenExactly.{step-no-chunk, step-at-rest}
+use Rattle.machine.specs.GivenExactly.{RunView, run-no-chunk-so, run-at-rest-so, runs_so}
+use Rattle.machine.proofs.GivenExactly.{run-view, run-no-chunk, run-at-rest, join-no-chunk, no-join-exactly}
 use Rattle.machine.specs.GivenExactly.{Finished, StuckSo, ReportedSo}
-use Rattle.machine.specs.GivenExactly.{OutcomeView, unfinished-so, stuck-so, reported-so, outcome-view, unfinished-exactly, stuck-exactly, report-exactly}
-use Rattle.machine.specs.Counts.{RunNamed, run-exactly}
+use Rattle.machine.specs.GivenExactly.{OutcomeView, unfinished-so, stuck-so, reported-so}
+use Rattle.machine.proofs.GivenExactly.{outcome-view, unfinished-exactly, stuck-exactly, report-exactly}
+use Rattle.machine.specs.Counts.{RunNamed}
+use Rattle.machine.proofs.Counts.{run-exactly}
 use Rattle.machine.specs.Answers.{outcome_answer}
 use Rattle.layout.specs.Layout.{decode}
 use Rattle.area.specs.Shape.{in_shape}

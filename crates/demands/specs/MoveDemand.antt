@@ -18,8 +18,9 @@ use Rattle.machine.specs.States.{State, Called, refused, became, Ran, refused_ru
 use Rattle.machine.specs.TableOf.{table_of}
 use Rattle.machine.specs.Schedules.{Turned, by-step, by-join}
 use Rattle.machine.specs.Allowed.{Steps, JoinsAt}
-use Rattle.machine.specs.AllowedExactly.{step-exactly, join-exactly}
-use Rattle.machine.specs.Counts.{RunNamed, run-exactly}
+use Rattle.machine.proofs.AllowedExactly.{step-exactly, join-exactly}
+use Rattle.machine.specs.Counts.{RunNamed}
+use Rattle.machine.proofs.Counts.{run-exactly}
 use Rattle.layout.specs.Layout.{need, encode, decode}
 use Rattle.matrix.specs.GrammarShape.{grammar_in_shape}
 use Rattle.area.specs.Shape.{in_shape}

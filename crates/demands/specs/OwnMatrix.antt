@@ -10,10 +10,13 @@ use Rattle.refusals.specs.declared.Answer.TheVariants.{Done}
 use Rattle.language.specs.Grammar.{left_side}
 use Rattle.language.specs.Words.{count_a, grammar_of}
 use Rattle.language.specs.Matching.{matching}
-use Rattle.language.specs.Matrix.{matrix_of, matrix-length}
-use Rattle.language.specs.Loads.{Accepted, load_answer, loaded_bytes, load_bytes, accepted-exactly}
+use Rattle.language.specs.Matrix.{matrix_of}
+use Rattle.language.proofs.Matrix.{matrix-length}
+use Rattle.language.specs.Loads.{Accepted, load_answer, loaded_bytes, load_bytes}
+use Rattle.language.proofs.Loads.{accepted-exactly}
 use Rattle.machine.specs.Spans.{span_of}
-use Rattle.machine.specs.TableOf.{relation_at, table_of, relation-of-words}
+use Rattle.machine.specs.TableOf.{relation_at, table_of}
+use Rattle.machine.proofs.TableOf.{relation-of-words}
 pub use Rattle.machine.specs.TableOf.{own_table, own-end-mark, own-laws}
 use Rattle.matrix.specs.GrammarShape.{grammar_in_shape}
 use Rattle.matrix.specs.EndMarkOfShape.{matrix-in-shape}

@@ -21,7 +21,8 @@ use Rattle.refusals.specs.Refusals.{number_of, value_of, report_number}
 use Rattle.language.specs.Grammar.{Grammar}
 use Rattle.language.specs.Words.{count_t, too-low, too-high, grammar_of}
 use Rattle.language.specs.Matrix.{matrix_of}
-use Rattle.language.specs.Loads.{Accepted, load_answer, accepted-exactly}
+use Rattle.language.specs.Loads.{Accepted, load_answer}
+use Rattle.language.proofs.Loads.{accepted-exactly}
 use Rattle.language.specs.Trees.{Span, Reduction, post_order, forest_of}
 use Rattle.language.specs.Reports.{stands_before, report_words}
 use Rattle.machine.specs.Moves.{Stuck}
@@ -34,7 +35,8 @@ use Rattle.results.specs.ReadThrough.{ReadThrough, read-through-schedule, run-re
 use Rattle.results.specs.UncutRow.{InLanguage, AxiomTree, FirstRefusal, first-refusal-number, Verdict, reads-through, verdict}
 use Rattle.results.specs.UncutRow.{report-of-tree, refused-exactly, tree-in-language, one-axiom-tree}
 use Rattle.results.specs.UncutRow as uncut
-use Rattle.machine.specs.GivenExactly.{StuckSo, value-stuck, stuck-exactly, report-exactly, outcome-refuses}
+use Rattle.machine.specs.GivenExactly.{StuckSo}
+use Rattle.machine.proofs.GivenExactly.{value-stuck, stuck-exactly, report-exactly, outcome-refuses}
 use Rattle.layout.specs.Layout.{need}
 use Rattle.layout.specs.Lengths.{few-reductions}
 use Rattle.start.specs.Start.{StartInput, NoTokens, no-tokens, TooMany, too_many, WrongToken, wrong-token, Startable, starts-exactly}

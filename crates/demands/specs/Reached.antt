@@ -19,8 +19,8 @@ use Rattle.machine.specs.Moves.{Stuck, no_relation, no_rule, not_axiom, side_by_
 use Rattle.machine.specs.States.{State, Outcome, refused_row, reported, refusal_of, outcome}
 use Rattle.machine.specs.Answers.{outcome_answer}
 use Rattle.results.specs.Bounded.{most_moves, bounded}
-use Rattle.machine.specs.Counts.{moves-since-start}
-use Rattle.machine.specs.GivenExactly.{outcome-refuses}
+use Rattle.machine.proofs.Counts.{moves-since-start}
+use Rattle.machine.proofs.GivenExactly.{outcome-refuses}
 use Rattle.layout.specs.Layout.{moves_in}
 use Rattle.shape.specs.Encoded.{moves-at, low-moves-at}
 use Rattle.area.specs.Shape.{in_shape}

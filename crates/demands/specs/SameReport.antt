@@ -20,8 +20,8 @@ use Rattle.machine.specs.Answers.{outcome_answer, outcome_out}
 use Rattle.results.specs.Progress.{Answered}
 use Rattle.results.specs.Confluent.{without_moves, uncut-outcome}
 use Rattle.results.specs.ReadThrough.{read-through-schedule}
-use Rattle.machine.specs.Counts.{moves-since-start}
-use Rattle.machine.specs.GivenExactly.{report-exactly}
+use Rattle.machine.proofs.Counts.{moves-since-start}
+use Rattle.machine.proofs.GivenExactly.{report-exactly}
 use Rattle.layout.specs.Layout.{need}
 use Rattle.start.specs.Start.{StartInput, no-tokens, too_many, wrong-token, Startable}
 use Rattle.start.specs.StartKept.{no_end}

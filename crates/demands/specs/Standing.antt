@@ -21,8 +21,8 @@ use Rattle.machine.specs.Moves.{Table}
 use Rattle.machine.specs.States.{State, Called, refused, became, Ran, refused_run, ran, step, run, join, start}
 use Rattle.machine.specs.TableOf.{table_of}
 use Rattle.machine.specs.Schedules.{Turned, by-step, by-join, Schedule, no-turn, one-turn}
-use Rattle.machine.specs.Counts.{made-scheduled, run-exactly}
-use Rattle.machine.specs.GivenExactly.{step-refuses, run-refuses, join-refuses}
+use Rattle.machine.proofs.Counts.{made-scheduled, run-exactly}
+use Rattle.machine.proofs.GivenExactly.{step-refuses, run-refuses, join-refuses}
 use Rattle.layout.specs.Layout.{need, encode}
 use Rattle.matrix.specs.GrammarShape.{grammar_in_shape}
 use Rattle.start.specs.Start.{Startable, started_area, start_area, starts-exactly}

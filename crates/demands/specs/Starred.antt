@@ -27,7 +27,8 @@ use Rattle.language.specs.RelationTests.{equal_test, yields_test, takes_test, re
 use Rattle.language.specs.Conflicts.{clash, conflict_stage}
 use Rattle.language.specs.Matrix.{matrix_of}
 use Rattle.language.specs.Stages.{Stage, refused_by, checked}
-use Rattle.language.specs.Loads.{Accepted, load_answer, load_bytes, set_checked, left_set_answer, right_set_answer, accepted-exactly}
+use Rattle.language.specs.Loads.{Accepted, load_answer, load_bytes, set_checked, left_set_answer, right_set_answer}
+use Rattle.language.proofs.Loads.{accepted-exactly}
 use Rattle.language.specs.Trees.{Span}
 use Rattle.machine.specs.Chunks.{running, stuck, Chunk}
 use Rattle.machine.specs.States.{State, Called, refused, became, Ran, refused_run, ran, run, join, start, chunk_at, place_of, refusal_of, outcome}

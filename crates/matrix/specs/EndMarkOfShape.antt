@@ -17,8 +17,9 @@ use Rattle.language.specs.Symbols.{yields, equal, takes, Relation}
 use Rattle.language.specs.Grammar.{Grammar}
 use Rattle.language.specs.SetMasks.{InRange}
 use Rattle.language.specs.Words.{count_t, grammar_of}
-use Rattle.language.specs.Matrix.{matrix_of, matrix-length, matrix-small, matrix-unused, matrix-end, matrix-end-left, matrix-end-right}
-use Rattle.language.specs.WordsInRange.{in-range}
+use Rattle.language.specs.Matrix.{matrix_of}
+use Rattle.language.proofs.Matrix.{matrix-length, matrix-small, matrix-unused, matrix-end, matrix-end-left, matrix-end-right}
+use Rattle.language.proofs.WordsInRange.{in-range}
 use Rattle.language.specs.Loads.{Accepted}
 use Rattle.machine.specs.Laws.{EndMark}
 use Rattle.machine.specs.TableOf.{relation_from, relation_at, table_of}

@@ -14,13 +14,18 @@ use Rattle.refusals.specs.declared.Answer.TheVariants.{Done, Refused}
 use Rattle.language.specs.Symbols.{Symbol}
 use Rattle.language.specs.Grammar.{left_side}
 use Rattle.language.specs.Words.{count_t, count_n, grammar_of}
-use Rattle.language.specs.Stages.{Ready, ready, finding, Given, passes-all, passes, given-exactly}
-use Rattle.language.specs.CheckHead.{BadHead, head-finds, head-absent}
-use Rattle.language.specs.CheckContents.{BadContents, contents-finds}
-use Rattle.language.specs.CheckSymbols.{BadSymbol, symbols-find}
+use Rattle.language.specs.Stages.{Ready, ready, finding, Given, passes-all, passes}
+use Rattle.language.proofs.Stages.{given-exactly}
+use Rattle.language.specs.CheckHead.{BadHead, head-absent}
+use Rattle.language.proofs.CheckHead.{head-finds}
+use Rattle.language.specs.CheckContents.{BadContents}
+use Rattle.language.proofs.CheckContents.{contents-finds}
+use Rattle.language.specs.CheckSymbols.{BadSymbol}
+use Rattle.language.proofs.CheckSymbols.{symbols-find}
 use Rattle.language.specs.Checks.{symbol_conditions, check_symbols}
-use Rattle.language.specs.WordsInRange.{in-range, few-terminals, few-nonterminals}
-use Rattle.language.specs.Matching.{matching, spelled_by}
+use Rattle.language.proofs.WordsInRange.{in-range, few-terminals, few-nonterminals}
+use Rattle.language.specs.Matching.{matching}
+use Rattle.language.proofs.Matching.{spelled_by}
 use Rattle.matrix.specs.GrammarShape.{is_done, rule_a}
 
 -- none of the conditions 1 to 3 holds anywhere

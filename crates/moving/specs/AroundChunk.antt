@@ -21,7 +21,7 @@ use Rattle.machine.specs.Moves.{no_relation, no_rule, not_axiom, side_by_side}
 use Rattle.machine.specs.Chunks.{Status, running, stuck, Chunk}
 use Rattle.machine.specs.States.{State, made_at}
 use Rattle.machine.specs.Allowed.{AllGone, no_number, one-gone, Live}
-use Rattle.machine.specs.AllowedExactly.{live-set}
+use Rattle.machine.proofs.AllowedExactly.{live-set}
 use Rattle.layout.specs.Layout.{need, size, block, stack_size, stack_words, marks, unread_size, unread_words, chunk_size, chunk_words, status_word, row}
 use Rattle.layout.specs.Layout.{total, rows, slots, front, tail_words, encode, table_at, row_word, slot_word, made_at_word}
 use Rattle.layout.specs.Lengths.{length-stack, length-row, length-rows, length-slots, rows_append, slots-append, total-append, within-slots, encode-length}

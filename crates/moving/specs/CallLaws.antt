@@ -8,7 +8,7 @@ use Rattle.std.proofs.Common.{sym, subst, arith}
 use Rattle.std.proofs.lemmas.Bool.{false≢true}
 use Rattle.laws.specs.Tests.{ltb-true, leb-true, ltb-not, leb-not, eqb-true, eq-eqb}
 use Rattle.machine.specs.Allowed.{Live}
-use Rattle.machine.specs.AllowedExactly.{rests-from}
+use Rattle.machine.proofs.AllowedExactly.{rests-from}
 use Rattle.machine.specs.GivenExactly.{LiveAtRest}
 use Rattle.layout.specs.Layout.{need, decode, row_word, slots_at}
 use Rattle.area.specs.Shape.{in_shape}

@@ -18,7 +18,8 @@ use Rattle.machine.specs.Spans.{span_of}
 use Rattle.machine.specs.States.{State, live}
 use Rattle.machine.specs.Starts.{symbols_along}
 use Rattle.machine.specs.Allowed.{HandleAbove, from-nonterminal, from-mark, up-to-unmarked, up-to-nonterminal, Live}
-use Rattle.machine.specs.AllowedExactly.{handle-symbols, HandleView, no-handle, a-handle, handle-view}
+use Rattle.machine.specs.AllowedExactly.{HandleView, no-handle, a-handle}
+use Rattle.machine.proofs.AllowedExactly.{handle-symbols, handle-view}
 use Rattle.layout.specs.Layout.{size, stack_size, stack_words, marks, total}
 use Rattle.layout.specs.Lengths.{length-stack, stack-size, tiles-end}
 use Rattle.layout.specs.Kept.{Lies, first-end, last_end, within, Tiles, tile, Kept}

@@ -14,8 +14,9 @@ use Rattle.refusals.specs.declared.Answer.TheVariants.{Done, Refused}
 use Rattle.language.specs.Trees.{Span}
 use Rattle.machine.specs.States.{Called, join}
 use Rattle.machine.specs.Allowed.{AllGone, Live, NextLive, IsAtRest}
-use Rattle.machine.specs.AllowedExactly.{rests-to}
-use Rattle.machine.specs.GivenExactly.{CannotJoin, no-live-right, left-not-at-rest, right-not-at-rest, join-no-chunk, no-join-exactly}
+use Rattle.machine.proofs.AllowedExactly.{rests-to}
+use Rattle.machine.specs.GivenExactly.{CannotJoin, no-live-right, left-not-at-rest, right-not-at-rest}
+use Rattle.machine.proofs.GivenExactly.{join-no-chunk, no-join-exactly}
 use Rattle.layout.specs.Layout.{decode}
 use Rattle.area.specs.Shape.{in_shape}
 use Rattle.moving.specs.declared.Next.TheVariants as next

@@ -15,7 +15,8 @@ use Rattle.machine.specs.Entries.{Unread, Entry, unmarked, stack_symbols}
 use Rattle.machine.specs.Chunks.{Chunk, at_rest, joined}
 use Rattle.machine.specs.States.{State, became, join, join_with}
 use Rattle.machine.specs.Allowed.{AllGone, Live, NextLive}
-use Rattle.machine.specs.AllowedExactly.{live_to, live-take, live-drop, next-to, numbers_left}
+use Rattle.machine.specs.AllowedExactly.{numbers_left}
+use Rattle.machine.proofs.AllowedExactly.{live_to, live-take, live-drop, next-to}
 use Rattle.layout.specs.Layout.{more, size, block, mark_word, stack_size, stack_words, marks, unread_size, unread_words, chunk_size, status_word}
 use Rattle.layout.specs.Layout.{row, total, rows, slots, zeros, front, tail_words, encode, table_at}
 use Rattle.layout.specs.Lengths.{length-stack, length-unread, length-rows, length-slots, rows_append, slots-append, total-append, unread-append, stack-size}

@@ -12,7 +12,8 @@ use Rattle.language.specs.Trees.{Span}
 use Rattle.machine.specs.Chunks.{Chunk}
 use Rattle.machine.specs.States.{State}
 use Rattle.machine.specs.Allowed.{AllGone, no_number, one-gone, Live, NextLive}
-use Rattle.machine.specs.AllowedExactly.{LiveView, is-live, not_live, live_view, live-drop}
+use Rattle.machine.specs.AllowedExactly.{LiveView, is-live, not_live}
+use Rattle.machine.proofs.AllowedExactly.{live_view, live-drop}
 use Rattle.layout.specs.Layout.{encode, row_word, status_word}
 use Rattle.shape.specs.Encoded.{chunks-at}
 use Rattle.moving.specs.AroundChunk.{status-word, status-some, gone-word, chunks-count, number-within}

@@ -15,8 +15,9 @@ use Rattle.laws.specs.Least.{Finds, nowhere, least, least-once, first_finds}
 use Rattle.language.specs.Symbols.{Symbol, nonterminal, word_of, symbol_of}
 use Rattle.language.specs.Grammar.{Spells, in_play}
 use Rattle.language.specs.Words.{count_r, right_words, grammar_of}
-use Rattle.language.specs.WordsInRange.{rules-count, in-play}
-use Rattle.language.specs.Matching.{matching, matching-finds}
+use Rattle.language.proofs.WordsInRange.{rules-count, in-play}
+use Rattle.language.specs.Matching.{matching}
+use Rattle.language.proofs.Matching.{matching-finds}
 use Rattle.language.specs.Trees.{Span}
 use Rattle.words.specs.Laid
 use Rattle.words.specs.Rules.{right_of, is-terminal, is-nonterminal, words_back}

@@ -23,7 +23,7 @@ use Rattle.machine.specs.States.{State, became, made_at, step}
 use Rattle.machine.specs.Spans.{span_of}
 use Rattle.machine.specs.TableOf.{relation_at, table_of}
 use Rattle.machine.specs.Allowed.{runs, is_stuck, HandleAbove, EndAndAxiom, end-and-axiom, Live}
-use Rattle.machine.specs.AllowedExactly.{handle-to, whole_from, live_to}
+use Rattle.machine.proofs.AllowedExactly.{handle-to, whole_from, live_to}
 use Rattle.layout.specs.Layout.{mark_word, stack_size, marks, unread_size, status_word, encode, row_word, slot_word}
 use Rattle.layout.specs.Lengths.{within-slots}
 use Rattle.layout.specs.Kept.{SymbolInRange, AllInRange, in-range, Kept}

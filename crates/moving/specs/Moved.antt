@@ -18,10 +18,11 @@ use Rattle.language.specs.Trees.{Span}
 use Rattle.language.specs.Symbols.{Relation, blank, yields, equal, takes}
 use Rattle.language.specs.Grammar.{Rule, left_side}
 use Rattle.language.specs.Words.{word, count_t, count_a, count_r, entry, grammar_of}
-use Rattle.language.specs.WordsInRange.{rule-at, in-play, few-nonterminals}
-use Rattle.language.specs.Matching.{matching, spelled_by}
-use Rattle.language.specs.CheckHead.{head-finds}
-use Rattle.language.specs.CheckContents.{contents-finds}
+use Rattle.language.proofs.WordsInRange.{rule-at, in-play, few-nonterminals}
+use Rattle.language.specs.Matching.{matching}
+use Rattle.language.proofs.Matching.{spelled_by}
+use Rattle.language.proofs.CheckHead.{head-finds}
+use Rattle.language.proofs.CheckContents.{contents-finds}
 use Rattle.words.specs.Laid
 use Rattle.machine.specs.Entries.{Entry, terminal_on, nonterminal_on, symbol, stack_symbols, top_terminal}
 use Rattle.machine.specs.Moves.{is_whole}

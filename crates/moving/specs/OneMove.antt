@@ -19,7 +19,7 @@ use Rattle.machine.specs.States.{State, became, join}
 use Rattle.machine.specs.TableOf.{table_of}
 use Rattle.machine.specs.Schedules.{by-step, by-join}
 use Rattle.machine.specs.Allowed.{HandleAbove, Live, Steps, NextLive}
-use Rattle.machine.specs.AllowedExactly.{step-exactly}
+use Rattle.machine.proofs.AllowedExactly.{step-exactly}
 use Rattle.layout.specs.Layout.{need, stack_size, marks, encode, decode, table_at, row_word, slot_word}
 use Rattle.layout.specs.Kept.{Kept}
 use Rattle.matrix.specs.GrammarShape.{grammar_in_shape}

@@ -14,10 +14,11 @@ use Rattle.laws.specs.Least.{finds-none}
 use Rattle.language.specs.Symbols.{Symbol, word_of}
 use Rattle.language.specs.Grammar.{Rule, left_side}
 use Rattle.language.specs.Words.{word, entry, grammar_of}
-use Rattle.language.specs.WordsInRange.{rule-at, in-play}
-use Rattle.language.specs.Matching.{matching, spelled_by}
-use Rattle.language.specs.CheckHead.{head-finds}
-use Rattle.language.specs.CheckContents.{contents-finds}
+use Rattle.language.proofs.WordsInRange.{rule-at, in-play}
+use Rattle.language.specs.Matching.{matching}
+use Rattle.language.proofs.Matching.{spelled_by}
+use Rattle.language.proofs.CheckHead.{head-finds}
+use Rattle.language.proofs.CheckContents.{contents-finds}
 use Rattle.language.specs.Trees.{Span}
 use Rattle.words.specs.Laid.{headed, laid}
 use Rattle.machine.specs.Entries.{Unread, terminal_at, nonterminal_at, Entry, terminal_on, nonterminal_on, symbol, stack_symbols, top_terminal}

@@ -23,9 +23,11 @@ use Rattle.machine.specs.States.{State, Called, refused, became, Ran, refused_ru
 use Rattle.machine.specs.Schedules.{by-step}
 use Rattle.machine.specs.TableOf.{table_of}
 use Rattle.machine.specs.Allowed.{Live}
-use Rattle.machine.specs.AllowedExactly.{rests-to, StepView, no-such-chunk, was-at-rest, steps-so, step-view}
-use Rattle.machine.specs.GivenExactly.{step-at-rest, RunView, run-no-chunk-so, run-at-rest-so, runs_so, run-view, run-no-chunk, run-at-rest}
-use Rattle.machine.specs.Counts.{run-moving, moving-step, moving-rests}
+use Rattle.machine.specs.AllowedExactly.{StepView, no-such-chunk, was-at-rest, steps-so}
+use Rattle.machine.proofs.AllowedExactly.{rests-to, step-view}
+use Rattle.machine.specs.GivenExactly.{RunView, run-no-chunk-so, run-at-rest-so, runs_so}
+use Rattle.machine.proofs.GivenExactly.{step-at-rest, run-view, run-no-chunk, run-at-rest}
+use Rattle.machine.proofs.Counts.{run-moving, moving-step, moving-rests}
 use Rattle.layout.specs.Layout.{encode, decode, slots_at}
 use Rattle.layout.specs.Kept.{Kept}
 use Rattle.area.specs.Shape.{in_shape}

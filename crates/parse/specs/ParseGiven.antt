@@ -17,10 +17,12 @@ use Rattle.refusals.specs.declared.ReportAnswer.TheVariants as report
 use Rattle.refusals.specs.Refusals.{number_of}
 use Rattle.language.specs.Words.{grammar_of}
 use Rattle.language.specs.Matrix.{matrix_of}
-use Rattle.language.specs.Loads.{Accepted, load_answer, load-room-given, accepted-exactly}
+use Rattle.language.specs.Loads.{Accepted, load_answer}
+use Rattle.language.proofs.Loads.{load-room-given, accepted-exactly}
 use Rattle.machine.specs.States.{Outcome, refused_row}
-use Rattle.machine.specs.Answers.{NoRoomForReport, outcome-room-given}
-use Rattle.machine.specs.TableOf.{own-end-mark, own-laws}
+use Rattle.machine.specs.Answers.{NoRoomForReport}
+use Rattle.machine.proofs.Answers.{outcome-room-given}
+use Rattle.machine.proofs.TableOf.{own-end-mark, own-laws}
 use Rattle.results.specs.UncutRow.{Verdict, accepted, refused, first-refusal-number, run-verdict}
 use Rattle.layout.specs.Layout.{need}
 use Rattle.matrix.specs.EndMarkOfShape.{own-shape}

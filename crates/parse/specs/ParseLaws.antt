@@ -19,14 +19,16 @@ use Rattle.refusals.specs.declared.ReportAnswer.TheVariants as report
 use Rattle.language.specs.Words.{count_t, count_n, grammar_of}
 use Rattle.language.specs.Grammar.{Grammar}
 use Rattle.language.specs.Matrix.{matrix_of}
-use Rattle.language.specs.Loads.{Accepted, load_answer, loaded_bytes, load_bytes, accepted-exactly}
+use Rattle.language.specs.Loads.{Accepted, load_answer, loaded_bytes, load_bytes}
+use Rattle.language.proofs.Loads.{accepted-exactly}
 use Rattle.language.specs.Trees.{Span, Reduction, forest_of}
 use Rattle.language.specs.Reports.{put_in_order}
-use Rattle.language.specs.ReportOrder.{post-order-stays}
+use Rattle.language.proofs.ReportOrder.{post-order-stays}
 use Rattle.machine.specs.Moves.{Table, Stuck, no_relation, no_rule, not_axiom, side_by_side}
 use Rattle.machine.specs.Chunks.{Chunk, stuck}
 use Rattle.machine.specs.States.{State, ran, run, unread_from, start, outcome}
-use Rattle.machine.specs.TableOf.{table_of, own_table, own-end-mark, own-laws}
+use Rattle.machine.specs.TableOf.{table_of, own_table}
+use Rattle.machine.proofs.TableOf.{own-end-mark, own-laws}
 use Rattle.machine.specs.Answers.{outcome_answer, outcome_out}
 use Rattle.results.specs.Runs.{Out, Ends}
 use Rattle.results.specs.RunsEnd.{fine-empty, fine-unmarked, run_ends}

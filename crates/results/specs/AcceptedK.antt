@@ -5,14 +5,16 @@
 -- Main statements: K-accepted, K-laws, K-end-mark.
 use Rattle.std.proofs.Common.{lit<}
 use Rattle.language.specs.Words.{grammar_of}
-use Rattle.language.specs.Checks.{words-pass}
-use Rattle.language.specs.CheckSamples.{words_k, K-passes}
-use Rattle.language.specs.WordsInRange.{in-range}
-use Rattle.language.specs.Conflicts.{conflict-none}
+use Rattle.language.proofs.Checks.{words-pass}
+use Rattle.language.specs.CheckSamples.{words_k}
+use Rattle.language.proofs.CheckSamples.{K-passes}
+use Rattle.language.proofs.WordsInRange.{in-range}
+use Rattle.language.proofs.Conflicts.{conflict-none}
 use Rattle.results.specs.SamplesK.{words-K, conflict-K}
 use Rattle.language.specs.Loads.{Accepted}
 use Rattle.machine.specs.Laws.{EndMark, Laws}
-use Rattle.machine.specs.TableOf.{own_table, own-end-mark, own-laws}
+use Rattle.machine.specs.TableOf.{own_table}
+use Rattle.machine.proofs.TableOf.{own-end-mark, own-laws}
 
 pub K-accepted : Accepted words_k
 K-accepted =

@@ -14,9 +14,11 @@ use Rattle.machine.specs.Laws.{EndMark}
 use Rattle.machine.specs.States.{State, ran, live, run}
 use Rattle.machine.specs.TableOf.{table_of}
 use Rattle.results.specs.Bounded.{Falls, falls-kept, moves-bounded}
-use Rattle.machine.specs.Schedules.{Turned, by-step, Schedule, no-turn, one-turn, listed}
-use Rattle.machine.specs.AllowedExactly.{step-exactly}
-use Rattle.machine.specs.Counts.{NamedMoves, no_move, move-and, run-exactly}
+use Rattle.machine.specs.Schedules.{Turned, by-step, Schedule, no-turn, one-turn}
+use Rattle.machine.proofs.Schedules.{listed}
+use Rattle.machine.proofs.AllowedExactly.{step-exactly}
+use Rattle.machine.specs.Counts.{NamedMoves, no_move, move-and}
+use Rattle.machine.proofs.Counts.{run-exactly}
 use Rattle.matrix.specs.GrammarShape.{rule_a}
 use Rattle.layout.specs.Kept.{Kept}
 use Rattle.shape.specs.RowAfterTurn.{row-then}

@@ -12,7 +12,8 @@ use Rattle.language.specs.Symbols.{terminal}
 use Rattle.language.specs.Trees.{Span, Reduction}
 use Rattle.language.specs.Words.{count_n}
 use Rattle.machine.specs.Entries.{Unread, terminal_at, nonterminal_at, Entry, terminal_on, nonterminal_on, symbol, value_of, stack_symbols}
-use Rattle.machine.specs.Moves.{Table, reads, replaces, Moved, by-rule-1, by-rule-2, by-rule-4-yields, by-rule-4-equal, by-rule-4-last, by-rule-5, by-rule-6, moved}
+use Rattle.machine.specs.Moves.{Table, reads, replaces, Moved, by-rule-1, by-rule-2, by-rule-4-yields, by-rule-4-equal, by-rule-4-last, by-rule-5, by-rule-6}
+use Rattle.machine.proofs.Moves.{moved}
 use Rattle.machine.specs.Chunks.{Chunk}
 use Rattle.machine.specs.Starts.{symbols_along}
 use Rattle.machine.specs.Spans.{span_of}
@@ -20,7 +21,8 @@ use Rattle.machine.specs.TableOf.{table_of}
 use Rattle.results.specs.RunsEnd.{MarksFine, fine-nonterminal, fine-unmarked, fine-marked}
 use Rattle.results.specs.Bounded.{AllFine, all-fine-cons}
 use Rattle.machine.specs.Allowed.{runs, HandleAbove, from-nonterminal, from-mark, up-to-unmarked, up-to-nonterminal, EndAndAxiom, end-and-axiom}
-use Rattle.machine.specs.AllowedExactly.{handle-symbols, HandleView, a-handle, handle-view, whole_from}
+use Rattle.machine.specs.AllowedExactly.{HandleView, a-handle}
+use Rattle.machine.proofs.AllowedExactly.{handle-symbols, handle-view, whole_from}
 use Rattle.machine.specs.Schedules.{first_stack, has-read, has-replaced, got-stuck, Changed, moves-one, joins-two, further}
 use Rattle.matrix.specs.GrammarShape.{rule_a}
 use Rattle.layout.specs.Kept.{LastHolds, holds, later-holds}

@@ -9,7 +9,8 @@ use Rattle.std.proofs.Common.{ap, arith, length-append}
 use Rattle.std.proofs.Math.Option.{Option, none, some}
 use Rattle.language.specs.Trees.{Span, Reduction}
 use Rattle.machine.specs.Entries.{Unread, Entry, stack_symbols}
-use Rattle.machine.specs.Moves.{Table, Stuck, no_rule, sticks, Moved, by-rule-1-stuck, by-rule-3, by-rule-4-stuck, by-rule-5-stuck, moved}
+use Rattle.machine.specs.Moves.{Table, Stuck, no_rule, sticks, Moved, by-rule-1-stuck, by-rule-3, by-rule-4-stuck, by-rule-5-stuck}
+use Rattle.machine.proofs.Moves.{moved}
 use Rattle.machine.specs.Laws.{EndMark}
 use Rattle.machine.specs.Chunks.{Chunk, joined}
 use Rattle.machine.specs.States.{State, live}
@@ -17,7 +18,8 @@ use Rattle.machine.specs.Starts.{symbols_along}
 use Rattle.results.specs.RunsEnd.{terminals-cons, on-reading, on-replacing}
 use Rattle.results.specs.Bounded.{terminals_in, terminals-append, terminals-of-stack, length-of-stack, reading-fills, AllFine, all-fine-cons}
 use Rattle.machine.specs.Allowed.{HandleAbove, from-nonterminal, from-mark, up-to-unmarked, up-to-nonterminal, Steps, JoinsAt}
-use Rattle.machine.specs.AllowedExactly.{HandleView, a-handle, handle-view, step-exactly, join-exactly}
+use Rattle.machine.specs.AllowedExactly.{HandleView, a-handle}
+use Rattle.machine.proofs.AllowedExactly.{handle-view, step-exactly, join-exactly}
 use Rattle.machine.specs.Schedules.{IsLive, first_stack, Turned, by-step, by-join, Made, has-read, has-replaced, got-stuck, Changed, moves-one, joins-two, further}
 use Rattle.layout.specs.Layout.{marks}
 use Rattle.layout.specs.Kept.{Tiles, AllInRange, in-range, LastHolds, holds, later-holds, Ending, whole, accepted, StuckFine}

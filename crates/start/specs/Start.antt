@@ -14,8 +14,10 @@ use Rattle.laws.specs.Tests.{ltb-true, ltb-false, lt-ltb, eqb-true}
 use Rattle.refusals.specs.declared.Refusal.TheVariants.{BadState, Empty, TooLong, BadToken, BadCut, NoRoom}
 use Rattle.refusals.specs.declared.Answer.{Answer}
 use Rattle.refusals.specs.declared.Answer.TheVariants.{Done, Refused}
-use Rattle.language.specs.Words.{count_t, Outside, outside, outside-iff}
-use Rattle.language.specs.Stages.{Stage, checked, Condition, stages_of, Ready, ready, finding, Given, passes-all, fails, passes, given-exactly, failing, failing-finds}
+use Rattle.language.specs.Words.{count_t, Outside, outside}
+use Rattle.language.proofs.Words.{outside-iff}
+use Rattle.language.specs.Stages.{Stage, checked, Condition, stages_of, Ready, ready, finding, Given, passes-all, fails, passes, failing}
+use Rattle.language.proofs.Stages.{given-exactly, failing-finds}
 use Rattle.machine.specs.States.{start}
 use Rattle.layout.specs.Layout.{need, encode}
 use Rattle.matrix.specs.GrammarShape.{grammar_in_shape}

@@ -12,7 +12,8 @@ use Rattle.language.specs.Trees.{Span}
 use Rattle.language.specs.Words.{count_t, too-low, too-high}
 use Rattle.machine.specs.Entries.{Unread, terminal_at}
 use Rattle.machine.specs.States.{live, unread_from, pieces, start_chunk, start}
-use Rattle.machine.specs.Starts.{NoEnd, bottom, later_chunk, symbols_along, later-symbols, row-length, begun}
+use Rattle.machine.specs.Starts.{NoEnd, bottom, later_chunk, symbols_along}
+use Rattle.machine.proofs.Starts.{later-symbols, row-length, begun}
 use Rattle.results.specs.RunsEnd.{one_unless_end, terminals_unread}
 use Rattle.results.specs.Bounded.{falls-start, potential-start}
 use Rattle.layout.specs.Layout.{size}

@@ -15,7 +15,7 @@ use Rattle.language.specs.Trees.{Span}
 use Rattle.machine.specs.Entries.{Unread, terminal_at}
 use Rattle.machine.specs.Chunks.{Chunk}
 use Rattle.machine.specs.States.{unread_from, pieces, start_chunk, start_chunks, start}
-use Rattle.machine.specs.Starts.{pieces-together}
+use Rattle.machine.proofs.Starts.{pieces-together}
 use Rattle.layout.specs.Layout.{need, more, block, unread_size, unread_words, total, rows, slots, zeros, encode}
 use Rattle.layout.specs.Lengths.{length-rows, length-slots, words_append}
 use Rattle.start.specs.StartKept.{GoodCuts, no_cut, next-cut}

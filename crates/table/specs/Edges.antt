@@ -13,7 +13,8 @@ use Rattle.std.proofs.Math.Seq.{split_at}
 use Rattle.laws.specs.Tests.{up_to-below}
 use Rattle.language.specs.Symbols.{terminal, symbol_of}
 use Rattle.language.specs.Grammar.{Grammar, in_play, Spells, Has}
-use Rattle.language.specs.CheckForm.{form-adjacent, form-bare, no_terminal, no-terminal-iff}
+use Rattle.language.specs.CheckForm.{form-adjacent, form-bare, no_terminal}
+use Rattle.language.proofs.CheckForm.{no-terminal-iff}
 use Rattle.words.specs.Rules.{is-terminal, is-nonterminal}
 use Rattle.table.specs.Sided.{RulesOf}
 

@@ -17,8 +17,10 @@ use Rattle.refusals.specs.declared.Answer.{Answer}
 use Rattle.refusals.specs.declared.Answer.TheVariants.{Done, Refused}
 use Rattle.language.specs.Grammar.{Grammar}
 use Rattle.language.specs.Words.{count_n, grammar_of}
-use Rattle.language.specs.Stages.{Stage, checked, then_checked, stages_of, asked, checked-append}
-use Rattle.language.specs.Checks.{check_words, Passed, words-pass}
+use Rattle.language.specs.Stages.{Stage, checked, then_checked, stages_of, asked}
+use Rattle.language.proofs.Stages.{checked-append}
+use Rattle.language.specs.Checks.{check_words, Passed}
+use Rattle.language.proofs.Checks.{words-pass}
 use Rattle.language.specs.CheckHead.{head_condition}
 use Rattle.language.specs.CheckContents.{contents_condition}
 use Rattle.language.specs.CheckSymbols.{symbol_condition}

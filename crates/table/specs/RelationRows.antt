@@ -22,9 +22,10 @@ use Rattle.language.specs.Grammar.{Grammar, rule_at, in_play, mirrored}
 use Rattle.language.specs.RightSides.{Pattern, this, one, fits, somewhere}
 use Rattle.language.specs.SetMasks.{left_member}
 use Rattle.language.specs.RelationTests.{equal_test, yields_test, takes_test, starts_axiom, ends_axiom, in_use, first_of, relation_of}
-use Rattle.language.specs.RelationPairs.{in-use}
+use Rattle.language.proofs.RelationPairs.{in-use}
 use Rattle.language.specs.Conflicts.{two_of, clash, clash_at}
-use Rattle.language.specs.Matrix.{entry_at, number_small}
+use Rattle.language.specs.Matrix.{entry_at}
+use Rattle.language.proofs.Matrix.{number_small}
 use Rattle.table.specs.Filled.{Rowed, rowed-more, rowed-whole}
 use Rattle.table.specs.MaskRows.{none-bit}
 use Rattle.table.specs.Shown.{holds, Adds, here, anywhere, row_same}

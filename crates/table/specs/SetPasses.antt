@@ -20,7 +20,8 @@ use Rattle.laws.specs.Masks.{bit, bit-or, bit-pow}
 use Rattle.language.specs.Symbols.{Symbol, terminal, nonterminal, symbol_of}
 use Rattle.language.specs.Grammar.{Grammar, left_side, Spells, mirrored}
 use Rattle.language.specs.Sets.{InLeft, starts, starts-after, starts-within}
-use Rattle.language.specs.SetMasks.{left_member, left_set, left-member-exactly, left-within, left-set-is}
+use Rattle.language.specs.SetMasks.{left_member, left_set}
+use Rattle.language.proofs.SetMasks.{left-member-exactly, left-within, left-set-is}
 use Rattle.words.specs.Rules.{is-terminal, is-nonterminal}
 use Rattle.table.specs.MaskRows.{gains, gains-bit, none-bit, total, gains-grows, total-most, mask_low}
 use Rattle.table.specs.Sided.{RulesOf, left_of, side_words}

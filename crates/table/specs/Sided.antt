@@ -16,13 +16,14 @@ use Rattle.laws.specs.Least.{Nowhere, finds-none}
 use Rattle.language.specs.Symbols.{Symbol, symbol_of}
 use Rattle.language.specs.Grammar.{Grammar, Rule, rule_at, left_side, in_play, Has, mirrored_rule, mirrored}
 use Rattle.language.specs.Words.{word, count_r, entry, body_end, right_words, grammar_of}
-use Rattle.language.specs.CheckHead.{head-finds}
-use Rattle.language.specs.CheckContents.{contents-finds}
+use Rattle.language.proofs.CheckHead.{head-finds}
+use Rattle.language.proofs.CheckContents.{contents-finds}
 use Rattle.language.specs.CheckForm.{BadForm, form-adjacent, form-bare}
 use Rattle.language.specs.Checks.{Passed}
-use Rattle.language.specs.Mirror.{mirrored-plays, mirrored-left, mirrored-rule, has-turned}
-use Rattle.language.specs.SetMasks.{InRange, in-range-mirrored}
-use Rattle.language.specs.WordsInRange.{rules-count, rule-at, in-range, few-terminals, few-nonterminals}
+use Rattle.language.proofs.Mirror.{mirrored-plays, mirrored-left, mirrored-rule, has-turned}
+use Rattle.language.specs.SetMasks.{InRange}
+use Rattle.language.proofs.SetMasks.{in-range-mirrored}
+use Rattle.language.proofs.WordsInRange.{rules-count, rule-at, in-range, few-terminals, few-nonterminals}
 use Rattle.words.specs.Laid.{Laid, headed, laid}
 
 -- a string seen from its start, or from its end

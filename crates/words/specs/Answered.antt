@@ -9,7 +9,8 @@ use Rattle.std.proofs.Common.{ap, ◌∙◌, arith}
 use Rattle.std.proofs.Math.Option.{Option, none, some}
 use Rattle.refusals.specs.declared.Refusal.{Refusal}
 use Rattle.refusals.specs.declared.Answer.TheVariants.{Done, Refused}
-use Rattle.language.specs.Stages.{Stage, checked, then_checked, checked-append}
+use Rattle.language.specs.Stages.{Stage, checked, then_checked}
+use Rattle.language.proofs.Stages.{checked-append}
 use Rattle.language.specs.CheckHead.{head_stage}
 use Rattle.language.specs.CheckContents.{contents_stage}
 use Rattle.language.specs.CheckSymbols.{symbol_stage}

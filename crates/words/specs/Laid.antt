@@ -11,9 +11,11 @@ use Rattle.std.proofs.Math.Option.{none}
 use Rattle.laws.specs.Least.{Nowhere, finds-none}
 use Rattle.laws.specs.Tests.{lt-ltb, le-ltb}
 use Rattle.language.specs.Words.{count_t, count_n, count_a, count_r, entry, body_end, Outside, too-low, too-high}
-use Rattle.language.specs.CheckHead.{BadHead, head-absent, head_stage, head-finds}
-use Rattle.language.specs.CheckContents.{BadContents, entry_absent, entry_first, entry-step, last-body, contents_stage, contents-finds}
-use Rattle.language.specs.WordsInRange.{few-terminals, few-nonterminals, few-axioms, few-rules}
+use Rattle.language.specs.CheckHead.{BadHead, head-absent, head_stage}
+use Rattle.language.proofs.CheckHead.{head-finds}
+use Rattle.language.specs.CheckContents.{BadContents, entry_absent, entry_first, entry-step, last-body, contents_stage}
+use Rattle.language.proofs.CheckContents.{contents-finds}
+use Rattle.language.proofs.WordsInRange.{few-terminals, few-nonterminals, few-axioms, few-rules}
 
 -- "T at most 63", "N at most 64; the first A are the axioms", "R at most 256"
 pub record Headed (words : List ℕ) : Type 0 where

@@ -11,7 +11,7 @@ use Rattle.laws.specs.Tests.{lt-ltb, le-ltb}
 use Rattle.language.specs.Symbols.{terminal, nonterminal, symbol_of, word_of}
 use Rattle.language.specs.Grammar.{Rule, rule_at}
 use Rattle.language.specs.Words.{count_r, right_words, grammar_of}
-use Rattle.language.specs.WordsInRange.{rule-at}
+use Rattle.language.proofs.WordsInRange.{rule-at}
 
 -- rule r's right side is the words of its body after the first
 pub right_of : (words : List ℕ) (r : ℕ) → r < count_r words → (rule_at (grammar_of words) r).right ≡ map symbol_of (right_words words r)

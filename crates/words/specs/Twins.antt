@@ -7,7 +7,8 @@ use Rattle.std.specs.Prelude.{◌≡◌, ◌↔◌, Bool, true, false, List, map
 use Rattle.std.proofs.Common.{sym, ap, ap₂, ◌∙◌, arith, get_or-take, get_or-drop, ext_get_or}
 use Rattle.std.proofs.Math.Seq.{slice, length-slice}
 use Rattle.laws.specs.Tests.{false-unless}
-use Rattle.language.specs.Symbols.{symbol_of, word_of, same_string, same_string-eq, same_string-refl}
+use Rattle.language.specs.Symbols.{symbol_of, word_of, same_string}
+use Rattle.language.proofs.Symbols.{same_string-eq, same_string-refl}
 use Rattle.language.specs.Grammar.{rule_at}
 use Rattle.language.specs.Words.{count_r, entry, body_end, grammar_of}
 use Rattle.words.specs.Laid.{Laid, within}

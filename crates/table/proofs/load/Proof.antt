@@ -2,7 +2,7 @@
 use mathlib.Core.Path.{sym, ◌∙◌}
 use lib.ListN.{length}
 use borrow.Author.Rules.{rules}
-use Rattle.language.specs.Checks.{words-pass}
+use Rattle.language.proofs.Checks.{words-pass}
 use Rattle.table.specs.Loaded.{refused-load, refuses}
 use Rattle.table.proofs.load.Statement.{statement}
 use Rattle.table.proofs.load.Tie as tie

@@ -5,8 +5,9 @@ use native.Mathlib.Omega.{arith}
 use borrow.Author.Rules.{rules}
 use Rattle.refusals.specs.declared.Answer.TheVariants.{Done}
 use Rattle.language.specs.Words.{count_n, grammar_of}
-use Rattle.language.specs.Checks.{Passed, check_words, words-pass}
-use Rattle.language.specs.SetMasks.{left-ones}
+use Rattle.language.specs.Checks.{Passed, check_words}
+use Rattle.language.proofs.Checks.{words-pass}
+use Rattle.language.proofs.SetMasks.{left-ones}
 use Rattle.table.specs.Sided.{sided, passed-laid, side-rules}
 use Rattle.table.specs.SetPasses.{members-set}
 use Rattle.table.specs.Loaded.{refused-set, no-such-set, given-set}

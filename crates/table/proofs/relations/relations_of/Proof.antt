@@ -4,7 +4,7 @@ use Prim.Native.Nat.{◌-◌, ◌≤◌}
 use native.Mathlib.Omega.{arith}
 use lib.ListN.{length}
 use Rattle.language.specs.Words.{grammar_of}
-use Rattle.language.specs.WordsInRange.{rules-count}
+use Rattle.language.proofs.WordsInRange.{rules-count}
 use Rattle.table.specs.Sided.{passed-laid}
 use Rattle.table.specs.RelationRows.{Seen, seen_more, shows}
 use Rattle.table.proofs.relations.relations_of.Statement.{statement}

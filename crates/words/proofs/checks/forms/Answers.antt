@@ -5,7 +5,7 @@ use Rattle.language.specs.Stages.{checked}
 use Rattle.language.specs.CheckForm.{bad_form}
 use Rattle.language.specs.CheckTwins.{twin_stage}
 use Rattle.language.specs.Words.{grammar_of}
-use Rattle.language.specs.WordsInRange.{rules-count}
+use Rattle.language.proofs.WordsInRange.{rules-count}
 use Rattle.words.specs.Search.{clear-more, found_at, found_nowhere}
 use Rattle.words.proofs.checks.forms.Goals as goal
 

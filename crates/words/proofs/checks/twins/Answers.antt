@@ -4,7 +4,7 @@ use Rattle.refusals.specs.declared.Answer.TheVariants.{Done}
 use Rattle.refusals.specs.declared.Refusal.TheVariants.{Twin}
 use Rattle.language.specs.CheckTwins.{bad_twin}
 use Rattle.language.specs.Words.{grammar_of}
-use Rattle.language.specs.WordsInRange.{rules-count}
+use Rattle.language.proofs.WordsInRange.{rules-count}
 use Rattle.words.specs.Search.{clear_none, clear-more, found_at, found_nowhere, fails-below, clear-below}
 use Rattle.words.specs.Twins.{body_of, twin_of, twin-is}
 use Rattle.words.proofs.checks.twins.Goals as goal

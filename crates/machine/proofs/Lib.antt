@@ -1,0 +1,10 @@
+pub mod AllowedExactly
+pub mod Answers
+pub mod Counts
+pub mod GivenExactly
+pub mod Moves
+pub mod Samples
+pub mod Schedules
+pub mod Spans
+pub mod Starts
+pub mod TableOf
