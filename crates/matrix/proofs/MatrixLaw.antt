@@ -1,19 +1,11 @@
--- What the proofs of this crate's functions share: what the answer to 1 to 3 makes of the rules; the tests of a byte, which the code joins
--- by `|`, are the choice that GrammarShape states; what a test of a run of bytes tells of a row, and of all.
+-- What the proofs of this crate's functions share: what the answer to 1 to 3 makes of the rules; what a test of a run of bytes tells of a
+-- row, and of all.
 -- Rests on specs' GrammarShape, ByteTests and EndMarkOfShape, and on laws' Looks.
 --
--- Main statements: passed, refused; byte-corner, byte-first, byte_last, byte-inner; byte-here; row_told; short-fails, rows_more, part-fails, whole-told.
-use mathlib.Core.Path.{◌≡◌, refl, sym, ap, ◌∙◌}
-use mathlib.Core.Logic.{◌⊎◌, inl, inr}
-use mathlib.Core.Bool.{Bool, true, false, ◌||◌}
-use mathlib.Core.List.{List}
-use Prim.Native.Nat.{ℕ, ◌+◌, ◌*◌, ◌/◌, ◌%◌, ◌<◌, ◌≤◌}
-use native.Mathlib.Omega.{arith}
-use native.Mathlib.Decide.{dec_lt}
-use lib.Dec.{leb, ltb, eqb}
-use lib.ListN.{length, get_or}
-use borrow.Author.Tests.{eq-eqb, ne_eqb, lt-leb, le-leb, lt-ltb, le-ltb}
-use Rattle.laws.specs.Tests.{all, up_to, false-unless, not-both, same_test}
+-- Main statements: passed, refused; byte-here; short-fails, rows_more, part-fails, whole-told.
+use Rattle.std.proofs.Common.{◌≡◌, refl, sym, ap, ◌∙◌, ◌⊎◌, inl, inr, Bool, true, false, List, ℕ, ◌+◌, ◌*◌, ◌/◌, ◌%◌, ◌<◌, ◌≤◌, leb, ltb, length, get_or, arith}
+use Rattle.std.proofs.Math.Decide.{dec_lt}
+use Rattle.laws.specs.Tests.{all, up_to, false-unless, not-both, same_test, lt-leb, le-leb, lt-ltb}
 use Rattle.laws.specs.Looks.{TellsAll}
 use Rattle.laws.specs.Picks.{pick, both-pick}
 use Rattle.refusals.specs.declared.Refusal.{Refusal}
@@ -35,32 +27,6 @@ module _ (words matrix : List ℕ) where
   pub refused : {refusal : Refusal} → check_symbols words ≡ Refused refusal → grammar_in_shape words matrix ≡ false
   unfolding grammar_in_shape
   refused e = ap (λ (answer : Answer). pick (is_done answer) (rule_b (count_t words) matrix) false) e
-
--- ---- (b), one byte
-
-either : (a b : Bool) → (a || b) ≡ pick a true b
-either true b = refl
-either false b = refl
-
--- a byte within t
-module _ (a b x t : ℕ) (h : a ≤ t) (k : b ≤ t) where
-  abbrev byte_within : Bool
-  byte_within = pick (eqb a 0) (pick (eqb b 0) (eqb x 2) (leb x 1)) (pick (eqb b 0) (pick (eqb x 0) true (eqb x 3)) (leb x 3))
-
-  within : byte_within ≡ byte_fits t a b x
-  within = rw (le-ltb t a h, le-ltb t b k)
-
-  pub byte-corner : a ≡ 0 → b ≡ 0 → eqb x 2 ≡ byte_fits t a b x
-  byte-corner p q = let e : eqb x 2 ≡ byte_within = simp (eq-eqb a 0 p, eq-eqb b 0 q) in e ∙ within
-
-  pub byte-first : a ≡ 0 → (b ≡ 0 → ⊥) → leb x 1 ≡ byte_fits t a b x
-  byte-first p q = let e : leb x 1 ≡ byte_within = simp (eq-eqb a 0 p, ne_eqb b 0 q) in e ∙ within
-
-  pub byte_last : (a ≡ 0 → ⊥) → b ≡ 0 → (eqb x 0 || eqb x 3) ≡ byte_fits t a b x
-  byte_last p q = let e : pick (eqb x 0) true (eqb x 3) ≡ byte_within = simp (ne_eqb a 0 p, eq-eqb b 0 q) in either (eqb x 0) (eqb x 3) ∙ (e ∙ within)
-
-  pub byte-inner : (a ≡ 0 → ⊥) → (b ≡ 0 → ⊥) → leb x 3 ≡ byte_fits t a b x
-  byte-inner p q = let e : leb x 3 ≡ byte_within = simp (ne_eqb a 0 p, ne_eqb b 0 q) in e ∙ within
 
 -- ---- (b), a run of bytes
 
@@ -90,12 +56,6 @@ module _ (t : ℕ) (matrix : List ℕ) where
       go : (b : Bool) → zero_at matrix v ≡ pick b (zero_at matrix v) (zero_at matrix v)
       go true = refl
       go false = refl
-
-  -- row a, of which the bytes up to t fit
-  pub row_told : (a b : ℕ) (r : Bool) → t < b → b ≤ 64 → ((v : ℕ) → 64 * a ≤ v → v < 64 * a + b → byte_at t matrix v ≡ true)
-      → TellsAll (zero_at matrix) (64 * a + b) (64 * a + 64) r → TellsAll (byte_at t matrix) (64 * a) (64 * a + 64) r
-  row_told a b r h k before tells =
-      rest-told (byte_at t matrix) (zero_at matrix) (64 * a) (64 * a + b) (64 * a + 64) r (omega arith) before (λ v i j. past v (inr (omega arith))) tells
 
   -- ---- (b), every byte
 

@@ -1,5 +1,6 @@
 // The grammar words and the matrix, lent with every call on a row being read: the shape rules (a) and (b) of docs/AREA.md.
 #![tactic(auto)]
+
 ghost use Rattle.std.specs.Prelude.{◌≡◌, ℕ, ◌+◌, ◌*◌, ◌≤◌, ◌<◌, length};
 ghost use Rattle.matrix.specs.GrammarShape.{byte_fits, grammar_in_shape};
 ghost use Rattle.laws.specs.Looks.{TellsAll};
