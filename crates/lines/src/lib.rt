@@ -2,12 +2,14 @@
 // Each line goes to a place of the run; the answer is the place after it, or that place itself where the line has no room, and then
 // nothing is written.
 #![tactic(auto)]
+
 mod writing;
 
 ghost use Rattle.std.specs.Prelude.{◌≡◌};
 ghost use Rattle.lines.specs.AnswerLines.{parse_line, entry_line, refused_line, text_line, written, end_after};
 
 // `parse n C moves`: tokens, chunks, moves.
+#[tactic(auto, unfolding(crate::specs::AnswerLines::parse_line))]
 pub fn put_parse(out: &mut [u8], at: usize, tokens: u32, chunks: u32, moves: u32) -> usize
     ensures value { result ≡ end_after out.old at (parse_line tokens chunks moves) }
     ensures out_after { out.new ≡ written out.old at (parse_line tokens chunks moves) }
@@ -16,6 +18,7 @@ pub fn put_parse(out: &mut [u8], at: usize, tokens: u32, chunks: u32, moves: u32
 }
 
 // An entry of the report: rule, first place, place after the last.
+#[tactic(auto, unfolding(crate::specs::AnswerLines::entry_line))]
 pub fn put_entry(out: &mut [u8], at: usize, rule: u32, first: u32, after: u32) -> usize
     ensures value { result ≡ end_after out.old at (entry_line rule first after) }
     ensures out_after { out.new ≡ written out.old at (entry_line rule first after) }
@@ -24,6 +27,7 @@ pub fn put_entry(out: &mut [u8], at: usize, rule: u32, first: u32, after: u32) -
 }
 
 // `refused number value`.
+#[tactic(auto, unfolding(crate::specs::AnswerLines::refused_line))]
 pub fn put_refused(out: &mut [u8], at: usize, number: u32, value: u32) -> usize
     ensures value { result ≡ end_after out.old at (refused_line number value) }
     ensures out_after { out.new ≡ written out.old at (refused_line number value) }
@@ -32,6 +36,7 @@ pub fn put_refused(out: &mut [u8], at: usize, number: u32, value: u32) -> usize
 }
 
 // `text L`: the first bad line.
+#[tactic(auto, unfolding(crate::specs::AnswerLines::text_line))]
 pub fn put_text(out: &mut [u8], at: usize, line: u32) -> usize
     ensures value { result ≡ end_after out.old at (text_line line) }
     ensures out_after { out.new ≡ written out.old at (text_line line) }

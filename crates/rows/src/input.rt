@@ -1,17 +1,17 @@
 // Standard input in pieces, as they come. Nothing is asked for once the text says what it says: after its third line feed, or in a bad line.
-ghost use Rattle.std.specs.Prelude.{◌≡◌, ◌≤◌, length};
+ghost use Rattle.std.specs.Prelude.{◌≡◌, ◌≤◌, length, IfOk};
 ghost use Rattle.text.specs.FedLimits.{AnswerLimits};
 
-use libc::STDIN_FILENO;
+use std::io;
+use std::io::Read;
 use text::reading;
 use text::reading::{State, TextAnswer};
 
-// What is there of the input, at most a piece of it; 0 at its end, or where reading fails.
-fn read_piece(piece: &mut [u8]) -> usize
-    ensures { result ≤ length piece.new }
+// What is there of the input, at most a piece of it; 0 at its end. The error of a read that fails.
+fn read_piece<R: Read>(input: &mut R, piece: &mut [u8]) -> io::Result<usize>
+    ensures { IfOk result (λ n. n ≤ length piece.new) }
 {
-    let got = libc::read(STDIN_FILENO, piece);
-    io::count(got, piece)
+    input.read(piece)
 }
 
 fn wants_more(state: State) -> bool {
@@ -24,24 +24,25 @@ fn wants_more(state: State) -> bool {
 
 // Reads the three lines into their buffers. A proved loop has to end, and nothing says that an input does: so it counts its turns
 // down, from a number that no run uses up.
-pub(crate) fn read_lines(
+pub(crate) fn read_lines<R: Read>(
+    input: &mut R,
     piece: &mut [u8],
     words: &mut [u16; 2564],
     tokens: &mut [u16; 1024],
     cuts: &mut [u16; 64],
-) -> TextAnswer
-    ensures answer_limits { AnswerLimits result }
+) -> io::Result<TextAnswer>
+    ensures answer_limits { IfOk result AnswerLimits }
     ensures words_len_unchanged { (length words.new ≡ length words.old) × (length tokens.new ≡ length tokens.old) × (length cuts.new ≡ length cuts.old) }
 {
     let mut state = reading::start();
     let mut turns = u64::MAX;
     while 0 < turns && wants_more(state) {
-        let n = read_piece(piece);
+        let n = read_piece(input, piece)?;
         if n == 0 {
-            return reading::finish(state);
+            return Ok(reading::finish(state));
         }
         state = reading::feed_piece(state, &piece[..n], words, tokens, cuts);
         turns -= 1;
     }
-    reading::finish(state)
+    Ok(reading::finish(state))
 }

@@ -1,6 +1,7 @@
 // The program `rows`: a row's three lines from standard input, its answer to standard output. Document 01, "Sample rows".
 // input.rt reads the lines, schedule.rt moves the row, output.rt writes the answer; the text itself is the crate `text`, the lines of the answer are the crate `lines`.
 #![tactic(auto)]
+
 mod input;
 mod output;
 mod schedule;
@@ -8,11 +9,18 @@ mod schedule;
 ghost use Rattle.std.specs.Prelude.{◌≤◌, length};
 ghost use Rattle.text.specs.FedLimits.{AnswerLimits};
 
+use std::io;
+use std::io::Write;
 use text::reading::TextAnswer;
 
 // The row of these lines: what it gives is written. The buffers are what a row of n = 1,024 tokens in C = 64 chunks can need: an area
 // of 7n + 5C + 13 words, a report of 3n words, and 16 bytes a line of the answer.
-fn answer_row(words: &[u16], tokens: &[u16], cuts: &[u16])
+fn answer_row<W: Write>(
+    output: &mut W,
+    words: &[u16],
+    tokens: &[u16],
+    cuts: &[u16],
+) -> io::Result<()>
     requires { (length tokens.now ≤ 1024) × (length cuts.now ≤ 64) }
 {
     let mut matrix = [0u8; 4096];
@@ -22,28 +30,40 @@ fn answer_row(words: &[u16], tokens: &[u16], cuts: &[u16])
     let count = tokens.len() as u32;
     let chunks = cuts.len() as u32 + 1;
     let answer = schedule::read_row(words, tokens, cuts, &mut matrix, &mut area, &mut entries);
-    output::write_row(&mut out, count, chunks, answer, &entries);
+    output::write_row(output, &mut out, count, chunks, answer, &entries)
 }
 
 // The answer to what the text says: `text L` before anything is loaded, or what its row gives.
-fn answer_text(said: TextAnswer, words: &[u16], tokens: &[u16], cuts: &[u16])
+fn answer_text<W: Write>(
+    output: &mut W,
+    said: TextAnswer,
+    words: &[u16],
+    tokens: &[u16],
+    cuts: &[u16],
+) -> io::Result<()>
     requires answer_limits { AnswerLimits said }
     requires in_bounds { (2564 ≤ length words.now) × (1024 ≤ length tokens.now) × (64 ≤ length cuts.now) }
 {
     match said {
         // no answer to a text that is at its end
-        TextAnswer::More => {}
-        TextAnswer::BadLine(line) => output::write_text(line),
-        TextAnswer::Lines(w, t, c) => answer_row(&words[..w], &tokens[..t], &cuts[..c]),
+        TextAnswer::More => Ok(()),
+        TextAnswer::BadLine(line) => output::write_text(output, line),
+        TextAnswer::Lines(w, t, c) => answer_row(output, &words[..w], &tokens[..t], &cuts[..c]),
     }
 }
 
-// The buffers of the lines: 2,564 words, 1,024 tokens and 64 cuts.
-fn main() {
+// The buffers of the lines: 2,564 words, 1,024 tokens and 64 cuts. A read or a write that fails ends the program with its error.
+fn main(rt: HostRuntime) -> io::Result<()> {
     let mut piece = [0u8; 4096];
     let mut words = [0u16; 2564];
     let mut tokens = [0u16; 1024];
     let mut cuts = [0u16; 64];
-    let said = input::read_lines(&mut piece, &mut words, &mut tokens, &mut cuts);
-    answer_text(said, &words, &tokens, &cuts);
+    let said = input::read_lines(
+        &mut rt.stdin(),
+        &mut piece,
+        &mut words,
+        &mut tokens,
+        &mut cuts,
+    )?;
+    answer_text(&mut rt.stdout(), said, &words, &tokens, &cuts)
 }

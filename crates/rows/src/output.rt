@@ -2,20 +2,21 @@
 ghost use Rattle.std.specs.Prelude.{◌*◌, ◌≤◌, length};
 ghost use Rattle.rows.specs.Schedule.{Fits};
 
-use libc::STDOUT_FILENO;
 use refusals::{Refusal, ReportAnswer};
+use std::io;
+use std::io::Write;
 
 // `text L`.
-pub(crate) fn write_text(line: u32) {
+pub(crate) fn write_text<W: Write>(output: &mut W, line: u32) -> io::Result<()> {
     let mut out = [0u8; 16];
     let end = lines::put_text(&mut out, 0, line);
-    io::write_all(STDOUT_FILENO, &out[..end]);
+    output.write_all(&out[..end])
 }
 
 // `refused number value`.
-fn write_refused(out: &mut [u8], refusal: Refusal) {
+fn write_refused<W: Write>(output: &mut W, out: &mut [u8], refusal: Refusal) -> io::Result<()> {
     let end = lines::put_refused(out, 0, refusals::number(refusal), refusals::value(refusal));
-    io::write_all(STDOUT_FILENO, &out[..end]);
+    output.write_all(&out[..end])
 }
 
 // The entries of a report, a line each; the place after them.
@@ -36,28 +37,37 @@ fn put_entries(out: &mut [u8], at: usize, entries: &[u16], count: usize) -> usiz
 }
 
 // `parse n C moves`, and the report.
-fn write_report(out: &mut [u8], tokens: u32, chunks: u32, moves: u32, entries: &[u16], count: usize)
+fn write_report<W: Write>(
+    output: &mut W,
+    out: &mut [u8],
+    tokens: u32,
+    chunks: u32,
+    moves: u32,
+    entries: &[u16],
+    count: usize,
+) -> io::Result<()>
     requires { 3 * count ≤ length entries.now }
 {
     let first = lines::put_parse(out, 0, tokens, chunks, moves);
     let end = put_entries(out, first, entries, count);
-    io::write_all(STDOUT_FILENO, &out[..end]);
+    output.write_all(&out[..end])
 }
 
 // What a row gives: its report, or its refusal.
-pub(crate) fn write_row(
+pub(crate) fn write_row<W: Write>(
+    output: &mut W,
     out: &mut [u8],
     tokens: u32,
     chunks: u32,
     answer: ReportAnswer,
     entries: &[u16],
-)
+) -> io::Result<()>
     requires { Fits answer (length entries.now) }
 {
     match answer {
         ReportAnswer::Report(count, moves) => {
-            write_report(out, tokens, chunks, moves, entries, count as usize);
+            write_report(output, out, tokens, chunks, moves, entries, count as usize)
         }
-        ReportAnswer::Refused(refusal) => write_refused(out, refusal),
+        ReportAnswer::Refused(refusal) => write_refused(output, out, refusal),
     }
 }

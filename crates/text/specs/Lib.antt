@@ -3,7 +3,6 @@ pub mod Feeding
 pub mod LineFed
 pub mod LineRead
 pub mod OneAnswer
-pub mod ReadingLaws
 pub mod Readings
 pub mod TextFed
 pub mod TextSamples

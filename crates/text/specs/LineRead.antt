@@ -1,6 +1,6 @@
 -- A line read byte by byte makes the numbers that its parts between the spaces stand for.
 -- Document 01, "Sample rows"; the sentences stand in Readings.
--- Rests on Readings, ReadingLaws.
+-- Rests on Readings.
 --
 -- Main definitions: Kind, numbers_after. Main statements: kind, line-is (a line's numbers are those that its bytes make one by one).
 use Rattle.std.specs.Prelude.{◌≡◌, refl, Bool, true, false, List, [], ◌∷◌, ℕ, ◌+◌, ◌-◌, ◌*◌, ◌≤◌, ◌<◌, leb, eqb}

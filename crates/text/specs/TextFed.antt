@@ -1,108 +1,19 @@
--- A whole text fed in pieces of any size says what it says: the answer and the buffers are those of `read_text`.
+-- What a whole text fed in pieces of any size leaves: the answer, and the buffers. That they are those of `read_text` is proved in
+-- `proofs/TextFed.antt`.
 -- Document 01, "Sample rows"; the sentences stand in Readings. "Text after the third line is not read": after the third line feed
 -- nothing more is asked for.
--- Rests on Readings, ReadingLaws, Feeding, LineRead, LineFed.
+-- Rests on Readings, Feeding.
 --
 -- Main definitions: answer_for, onto, after, after_pieces, TextFed, TextHeld.
--- Main statements: text-fed (the answer at the end, that nothing is asked for after the third line feed, and the buffers), buffers-hold,
--- pieces-fed and pieces-read (however the text is cut in pieces), early (an answer given before the end stands, whatever comes).
-use Rattle.std.specs.Prelude.{◌≡◌, refl, Bool, true, false, List, [], ◌∷◌, ◌++◌, ℕ, suc, ◌+◌, ◌≤◌, ◌<◌, eqb, length, drop, set}
-use Rattle.std.proofs.Common.{sym, ◌∙◌, add-zero, zero-add, add-one, arith}
-use Rattle.std.proofs.Math.Path.{ap}
-use Rattle.std.proofs.Math.Option.{Option, none, some}
-use Rattle.std.proofs.lemmas.List.Edits.{sets, sets-eq}
-use Rattle.laws.specs.Ascii.{line_feed}
-use Rattle.laws.specs.Parts.{flat}
-use Rattle.laws.specs.Tests.{eqb-true}
-use Rattle.text.specs.declared.reading.Line.{Line}
-use Rattle.text.specs.declared.reading.Line.TheVariants.{Words, Tokens, Cuts}
-use Rattle.text.specs.declared.reading.Phase.{Phase}
-use Rattle.text.specs.declared.reading.Phase.TheVariants.{Fresh, Number, Space, Bad, Done}
+use Rattle.std.specs.Prelude.{◌≡◌, List, [], ◌∷◌, ◌++◌, ℕ, ◌<◌, length, drop}
+use Rattle.std.proofs.lemmas.List.Edits.{sets}
+use Rattle.text.specs.declared.reading.Line.TheVariants.{Cuts}
+use Rattle.text.specs.declared.reading.Phase.TheVariants.{Done}
 use Rattle.text.specs.declared.reading.State.{State}
 use Rattle.text.specs.declared.reading.TextAnswer.{TextAnswer}
-use Rattle.text.specs.declared.reading.TextAnswer.TheVariants.{More, BadLine, Lines}
-use Rattle.text.specs.ReadingLaws.{bad-first, bad-second, bad-third, good-third, read-limited}
-use Rattle.text.specs.Readings.{lines_of, line_of, at_most, most_words, most_tokens, most_cuts, Reading, lines, bad_line, read_lines, read_text}
-use Rattle.text.specs.Feeding.{Held, held, start, fed_all, fed-append, bad-stays, done-stays, line_number, answer_in, answer_of, finish_in, finish_of}
-use Rattle.text.specs.LineRead.{numbers_after, line-is}
-use Rattle.text.specs.LineFed.{NoFeed, held_in, line_done, kept_all, room, Broken, Ended, line-fed, NotDone, Unfinished, unfinished-stays}
-
--- a text has no line feed, or is cut at its first
-data Cut : List ℕ → Type 0 where
-  uncut : {text : List ℕ} → NoFeed text → Cut text
-  cut_at : (line rest : List ℕ) → NoFeed line → Cut (line ++ (line_feed ∷ rest))
-
-cut : (text : List ℕ) → Cut text
-cut [] = uncut tt
-cut (byte ∷ text) = go (eqb byte line_feed) refl (cut text)
-  where
-    go : (b : Bool) → eqb byte line_feed ≡ b → {text : List ℕ} → Cut text → Cut (byte ∷ text)
-    go true e {text} c = rw (eqb-true byte line_feed e) (cut_at [] text tt)
-    go false e (uncut {text} n) = uncut {text = byte ∷ text} (e, n)
-    go false e (cut_at line rest n) = cut_at (byte ∷ line) rest (e, n)
-
-lines_none : (text : List ℕ) → NoFeed text → lines_of text ≡ []
-lines_none [] n = refl
-lines_none (byte ∷ text) n = rw (n.0, lines_none text n.1)
-
-lines_cut : (line rest : List ℕ) → NoFeed line → lines_of (line ++ (line_feed ∷ rest)) ≡ line ∷ lines_of rest
-lines_cut [] rest n = refl
-lines_cut (byte ∷ line) rest n = rw (n.0, lines_cut line rest n.1)
-
--- what a line does to a state in which it begins
-data Level (h : Held) (text : List ℕ) : Type 0 where
-  missing : lines_of text ≡ [] → Unfinished h.state.line (fed_all (held_in h Fresh) text) → Level h text
-  spoilt : (line rest : List ℕ) → lines_of text ≡ line ∷ lines_of rest → line_of (room h.state) line ≡ none
-      → Broken h.state.line (fed_all (held_in h Fresh) text) → Level h text
-  passed : (line rest numbers : List ℕ) → lines_of text ≡ line ∷ lines_of rest → line_of (room h.state) line ≡ some numbers
-      → fed_all (held_in h Fresh) text ≡ fed_all (line_done (kept_all numbers h)) rest → Level h text
-
-level : (h : Held) {text : List ℕ} → Cut text → Level h text
-level h (uncut {text} n) = missing (lines_none text n) (unfinished-stays text (held_in h Fresh) n tt)
-level h (cut_at line rest n) = go (at_most (room h.state) (numbers_after line Fresh)) refl (line-fed rest line n Fresh h tt)
-  where
-    text : List ℕ
-    text = line ++ (line_feed ∷ rest)
-
-    go : (numbers : Option (List ℕ)) → at_most (room h.state) (numbers_after line Fresh) ≡ numbers → Ended h numbers (fed_all (held_in h Fresh) text) rest → Level h text
-    go none e b = spoilt line rest (lines_cut line rest n) (line-is (room h.state) line ∙ e) b
-    go (some numbers) e f = passed line rest numbers (lines_cut line rest n) (line-is (room h.state) line ∙ e) f
-
--- what numbers that are kept one after the other leave, in each line
-abbrev at : Line → ℕ → ℕ → ℕ → State
-at l w t c = record { line = l; phase = Fresh; words = w; tokens = t; cuts = c }
-
-one_further : (n k : ℕ) → n + 1 + k ≡ n + suc k
-one_further n k = omega arith
-
-words-kept : (numbers : List ℕ) (w t c : ℕ) (W T C : List ℕ)
-    → kept_all numbers (held (at Words w t c) W T C) ≡ held (at Words (w + length numbers) t c) (sets W w numbers) T C
-words-kept [] w t c W T C = rw (add-zero w)
-words-kept (v ∷ numbers) w t c W T C = words-kept numbers (w + 1) t c (set W w v) T C ∙ rw (one_further w (length numbers), add-one w)
-
-tokens-kept : (numbers : List ℕ) (w t c : ℕ) (W T C : List ℕ)
-    → kept_all numbers (held (at Tokens w t c) W T C) ≡ held (at Tokens w (t + length numbers) c) W (sets T t numbers) C
-tokens-kept [] w t c W T C = rw (add-zero t)
-tokens-kept (v ∷ numbers) w t c W T C = tokens-kept numbers w (t + 1) c W (set T t v) C ∙ rw (one_further t (length numbers), add-one t)
-
-cuts-kept : (numbers : List ℕ) (w t c : ℕ) (W T C : List ℕ)
-    → kept_all numbers (held (at Cuts w t c) W T C) ≡ held (at Cuts w t (c + length numbers)) W T (sets C c numbers)
-cuts-kept [] w t c W T C = rw (add-zero c)
-cuts-kept (v ∷ numbers) w t c W T C = cuts-kept numbers w t (c + 1) W T (set C c v) ∙ rw (one_further c (length numbers), add-one c)
-
--- what a state says that is bad, or in the midst of a line
-answer-broken : (l : Line) (h : Held) → Broken l h → answer_of h.state ≡ BadLine (line_number l)
-answer-broken l h b = rw (b.1, b.0)
-
-finish-unfinished : (l : Line) (h : Held) → Unfinished l h → finish_of h.state ≡ BadLine (line_number l)
-finish-unfinished l h u = rw (← u.0) (go h.state.phase u.1)
-  where
-    go : (p : Phase) → NotDone p → finish_in (answer_in p h.state) h.state ≡ BadLine (line_number h.state.line)
-    go Fresh o = refl
-    go (Number v) o = refl
-    go Space o = refl
-    go Bad o = refl
-    go Done o = absurd o
+use Rattle.text.specs.declared.reading.TextAnswer.TheVariants.{BadLine, Lines}
+use Rattle.text.specs.Readings.{lines_of, Reading, lines, bad_line, read_text}
+use Rattle.text.specs.Feeding.{Held, held, start, fed_all, answer_of, finish_of}
 
 -- the answer for a reading: the line, or how many numbers there are
 abbrev pub answer_for : Reading → TextAnswer
@@ -113,9 +24,6 @@ answer_for (bad_line l) = BadLine l
 abbrev pub onto : List ℕ → List ℕ → List ℕ
 onto numbers buffer = numbers ++ drop (length numbers) buffer
 
-onto-sets : (numbers buffer : List ℕ) → length numbers ≤ length buffer → sets buffer 0 numbers ≡ onto numbers buffer
-onto-sets numbers buffer h = sets-eq numbers buffer 0 (omega arith) ∙ rw (zero-add (length numbers))
-
 -- all three lines have been read
 abbrev pub done : List ℕ → List ℕ → List ℕ → State
 done words tokens cuts = record { line = Cuts; phase = Done; words = length words; tokens = length tokens; cuts = length cuts }
@@ -124,30 +32,6 @@ done words tokens cuts = record { line = Cuts; phase = Done; words = length word
 abbrev pub after_pieces : List (List ℕ) → Held → Held
 after_pieces [] h = h
 after_pieces (piece ∷ pieces) h = after_pieces pieces (fed_all h piece)
-
-pieces-one : (pieces : List (List ℕ)) (h : Held) → after_pieces pieces h ≡ fed_all h (flat pieces)
-unfolding fed_all
-pieces-one [] h = refl
-pieces-one (piece ∷ pieces) h = pieces-one pieces (fed_all h piece) ∙ sym (fed-append h piece (flat pieces))
-
--- after an answer other than that more is wanted nothing changes
-still : (h : Held) → (answer_of h.state ≡ More → ⊥) → (more : List ℕ) → fed_all h more ≡ h
-still h = go h.state.phase refl
-  where
-    go : (p : Phase) → h.state.phase ≡ p → (answer_in p h.state ≡ More → ⊥) → (more : List ℕ) → fed_all h more ≡ h
-    go Fresh e n more = absurd (n refl)
-    go (Number v) e n more = absurd (n refl)
-    go Space e n more = absurd (n refl)
-    go Bad e n more = bad-stays more h e
-    go Done e n more = done-stays more h e
-
-finish-said : (s : State) → (answer_of s ≡ More → ⊥) → finish_of s ≡ answer_of s
-finish-said s = go (answer_of s)
-  where
-    go : (a : TextAnswer) → (a ≡ More → ⊥) → finish_in a s ≡ a
-    go More n = absurd (n refl)
-    go (BadLine l) n = refl
-    go (Lines w t c) n = refl
 
 module _ (W T C : List ℕ) where
   -- the text so far, from the start and these buffers
@@ -161,117 +45,8 @@ module _ (W T C : List ℕ) where
     pub stored : (words tokens cuts : List ℕ) → read_text text ≡ lines words tokens cuts
         → after text ≡ held (done words tokens cuts) (sets W 0 words) (sets T 0 tokens) (sets C 0 cuts)
 
-  bad-text : (text : List ℕ) (l : Line) → read_text text ≡ bad_line (line_number l) → Unfinished l (after text)
-      → (2 < length (lines_of text) → answer_of (after text).state ≡ BadLine (line_number l)) → TextFed text
-  bad-text text l e u a =
-      record {
-        finished = finish-unfinished l (after text) u ∙ ap answer_for (sym e);
-        asked = λ three. a three ∙ ap answer_for (sym e);
-        stored = λ words tokens cuts f. let z : ◌≡◌ {A = ℕ} 0 1 = cc in absurd (omega arith);
-      }
-
-  good-text : (text words tokens cuts : List ℕ) → read_text text ≡ lines words tokens cuts
-      → after text ≡ held (done words tokens cuts) (sets W 0 words) (sets T 0 tokens) (sets C 0 cuts) → TextFed text
-  good-text text words tokens cuts e f =
-      record {
-        finished = rw (f, e);
-        asked = λ three. rw (f, e);
-        stored = λ w t c g.
-            let a : w ≡ words = cc in
-            let b : t ≡ tokens = cc in
-            let d : c ≡ cuts = cc in
-            rw (a, b, d) f;
-      }
-
-  unfinished-broken : (l : Line) (h : Held) → Broken l h → Unfinished l h
-  unfinished-broken l h b = (b.0, rw b.1 tt)
-
-  read_is : (text : List ℕ) (ls : List (List ℕ)) → lines_of text ≡ ls → read_text text ≡ read_lines ls
-  unfolding read_text
-  read_is text ls e = ap read_lines e
-
-  module _ (text : List ℕ) where
-    -- the second line begins, and the third
-    abbrev second : List ℕ → Held
-    second words = held (at Tokens (0 + length words) 0 0) (sets W 0 words) T C
-
-    abbrev third : List ℕ → List ℕ → Held
-    third words tokens = held (at Cuts (0 + length words) (0 + length tokens) 0) (sets W 0 words) (sets T 0 tokens) C
-
-    module _ (line₁ line₂ rest words tokens : List ℕ) (e : lines_of text ≡ line₁ ∷ (line₂ ∷ lines_of rest)) (g₁ : line_of most_words line₁ ≡ some words)
-        (g₂ : line_of most_tokens line₂ ≡ some tokens) (f : after text ≡ fed_all (third words tokens) rest) where
-      abbrev ls : List (List ℕ)
-      ls = line₁ ∷ (line₂ ∷ lines_of rest)
-
-      third-read : Level (third words tokens) rest → TextFed text
-      third-read (missing m u) =
-          bad-text text Cuts (read_is text ls e ∙ bad-third ls words g₁ tokens g₂ (rw m)) (rw f u) (λ three. absurd (omega (arith, ap length e, ap length m)))
-      third-read (spoilt line₃ rest₃ e₃ n b) =
-          bad-text text Cuts (read_is text ls e ∙ bad-third ls words g₁ tokens g₂ (rw e₃ n))
-          (rw f (unfinished-broken Cuts (fed_all (third words tokens) rest) b)) (λ three. rw f (answer-broken Cuts (fed_all (third words tokens) rest) b))
-      third-read (passed line₃ rest₃ cuts e₃ g₃ f₃) =
-          good-text text words tokens cuts (read_is text ls e ∙ good-third ls words g₁ tokens g₂ cuts (rw e₃ g₃))
-          (f ∙ f₃ ∙ ap (λ (k : Held). fed_all (line_done k) rest₃) (cuts-kept cuts (0 + length words) (0 + length tokens) 0 (sets W 0 words) (sets T 0 tokens) C)
-          ∙ done-stays rest₃ _ refl ∙ rw (zero-add (length words), zero-add (length tokens), zero-add (length cuts)))
-
-    module _ (line₁ rest words : List ℕ) (e : lines_of text ≡ line₁ ∷ lines_of rest) (g₁ : line_of most_words line₁ ≡ some words)
-        (f : after text ≡ fed_all (second words) rest) where
-      second-read : Level (second words) rest → TextFed text
-      second-read (missing m u) =
-          bad-text text Tokens (read_is text (line₁ ∷ lines_of rest) e ∙ bad-second (line₁ ∷ lines_of rest) words g₁ (rw m)) (rw f u)
-          (λ three. absurd (omega (arith, ap length e, ap length m)))
-      second-read (spoilt line₂ rest₂ e₂ n b) =
-          bad-text text Tokens (read_is text (line₁ ∷ lines_of rest) e ∙ bad-second (line₁ ∷ lines_of rest) words g₁ (rw e₂ n))
-          (rw f (unfinished-broken Tokens (fed_all (second words) rest) b)) (λ three. rw f (answer-broken Tokens (fed_all (second words) rest) b))
-      second-read (passed line₂ rest₂ tokens e₂ g₂ f₂) =
-          third-read line₁ line₂ rest₂ words tokens (e ∙ ap (λ (ls : List (List ℕ)). line₁ ∷ ls) e₂) g₁ g₂
-          (f ∙ f₂ ∙ ap (λ (k : Held). fed_all (line_done k) rest₂) (tokens-kept tokens (0 + length words) 0 0 (sets W 0 words) T C))
-          (level (third words tokens) (cut rest₂))
-
-    first_read : Level (held start W T C) text → TextFed text
-    first_read (missing m u) = bad-text text Words (read_is text [] m ∙ bad-first [] refl) u (λ three. absurd (omega (arith, ap length m)))
-    first_read (spoilt line₁ rest e n b) =
-        bad-text text Words (read_is text (line₁ ∷ lines_of rest) e ∙ bad-first (line₁ ∷ lines_of rest) n) (unfinished-broken Words (after text) b)
-        (λ three. answer-broken Words (after text) b)
-    first_read (passed line₁ rest words e g f) =
-        second-read line₁ rest words e g (f ∙ ap (λ (k : Held). fed_all (line_done k) rest) (words-kept words 0 0 0 W T C)) (level (second words) (cut rest))
-
-  -- a text that has been fed whole
-  pub text-fed : (text : List ℕ) → TextFed text
-  text-fed text = first_read text (level (held start W T C) (cut text))
-
-  -- buffers of the sizes that document 01 gives hold the numbers that have been read at their fronts, and the rest of them is as it was
-  pub buffers-hold : most_words ≤ length W → most_tokens ≤ length T → most_cuts ≤ length C → (text words tokens cuts : List ℕ) → read_text text ≡ lines words tokens cuts
-      → after text ≡ held (done words tokens cuts) (onto words W) (onto tokens T) (onto cuts C)
-  buffers-hold w t c text words tokens cuts e =
-      let l = read-limited text words tokens cuts e in
-      (text-fed text).stored words tokens cuts e
-      ∙ rw (onto-sets words W (omega (arith, l.words-limited)), onto-sets tokens T (omega (arith, l.tokens-limited)), onto-sets cuts C (omega (arith, l.cuts-limited)))
-
   -- what the buffers hold after a text
   pub record TextHeld (text W' T' C' : List ℕ) : Type 0 where
     pub words-held : W' ≡ (after text).words
     pub tokens-held : T' ≡ (after text).tokens
     pub cuts-held : C' ≡ (after text).cuts
-
-  pub text-answered : (text : List ℕ) (s r : State) (W' T' C' : List ℕ) → s ≡ start → held r W' T' C' ≡ fed_all (held s W T C) text
-      → (finish_of r ≡ answer_for (read_text text)) × TextHeld text W' T' C'
-  text-answered text s r W' T' C' e f =
-      let g : held r W' T' C' ≡ after text = f ∙ ap (λ (q : State). fed_all (held q W T C) text) e in (
-        ap (λ (h : Held). finish_of h.state) g ∙ (text-fed text).finished,
-        record { words-held = ap (λ (h : Held). h.words) g; tokens-held = ap (λ (h : Held). h.tokens) g; cuts-held = ap (λ (h : Held). h.cuts) g },
-      )
-
-  -- however a text is cut in pieces, feeding them is feeding the text
-  pub pieces-fed : (pieces : List (List ℕ)) → after_pieces pieces (held start W T C) ≡ after (flat pieces)
-  pieces-fed pieces = pieces-one pieces (held start W T C)
-
-  pub pieces-read : (pieces : List (List ℕ)) → finish_of (after_pieces pieces (held start W T C)).state ≡ answer_for (read_text (flat pieces))
-  pieces-read pieces = ap (λ (h : Held). finish_of h.state) (pieces-fed pieces) ∙ (text-fed (flat pieces)).finished
-
-  -- an answer other than that more is wanted stands, whatever comes
-  pub early : (text : List ℕ) → (answer_of (after text).state ≡ More → ⊥) → (more : List ℕ) → answer_of (after text).state ≡ answer_for (read_text (text ++ more))
-  early text n more =
-      sym (finish-said (after text).state n)
-      ∙ ap (λ (h : Held). finish_of h.state) (sym (fed-append (held start W T C) text more ∙ still (after text) n more))
-      ∙ (text-fed (text ++ more)).finished

@@ -223,6 +223,7 @@ fn ended(
 }
 
 // After one byte.
+#[tactic(auto, unfolding(crate::specs::Feeding::fed))]
 pub fn feed(
     state: State,
     byte: u8,

@@ -1,0 +1,12 @@
+-- What is left of the piece, fed from here, is the whole piece fed from the start.
+use Rattle.std.proofs.Common.{length, drop, ◌-◌, ◌≡◌, ◌≤◌}
+use Rattle.text.specs.Feeding.{held, fed_all}
+use Rattle.text.proofs.reading.feed_piece.Given as goal
+
+abbrev pub invariant-loop-i : goal.invariant-loop-i
+invariant-loop-i l =
+    (l.i ≤ length l.piece)
+    × (fed_all (held l.initial.read l.initial.words l.initial.tokens l.initial.cuts) l.piece ≡ fed_all (held l.read l.words l.tokens l.cuts) (drop l.i l.piece))
+
+abbrev pub decreases-loop-i : goal.decreases-loop-i
+decreases-loop-i l = length l.piece - l.i
