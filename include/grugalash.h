@@ -1,8 +1,9 @@
 /* grugalash.h: the calls of Grugalash for C.
  *
  * Grugalash reads rows of knitting patterns by an operator precedence grammar and reports the steps that build a row. Link
- * libgrugalash.a (`rt staticlib grugalash` writes it to target/staticlib/, for x86-64 Linux). It has no state, allocates nothing, reads and
- * writes only what it is lent, and always ends. What each call answers and leaves is proved for every input that keeps the terms below.
+ * libgrugalash.a, for x86-64 Linux: `rt lib` in crates/grugalash_c builds it, and build_library of examples/library.sh copies it to
+ * target/staticlib/. It has no state, allocates nothing, reads and writes only what it is lent, and always ends. What each call answers
+ * and leaves is proved for every input that keeps the terms below.
  *
  * Terms
  * - A run is an address and the number of its elements. The address is not null and is aligned for its type, also where the number is 0.

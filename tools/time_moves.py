@@ -1,7 +1,7 @@
 """Time start, run and join to the end through the built library, for comma lists of grammar K.
 
     python3 tools/time_moves.py [PROGRAM]
-        PROGRAM is the built program `vectors`, target/bin/vectors if not given
+        PROGRAM is the built program `vectors`, crates/vectors/out/vectors if not given (`rt run` in crates/vectors builds it)
 
 Rows of 4,095 and of 16,383 tokens, cut into two and into 64 chunks: start, each chunk run until it rests, then chunk 0 joined
 rightwards and run until it rests after each join.  The program is timed with a schedule that does this many times over, and with one
@@ -65,7 +65,7 @@ def time_of(program, n, chunks, times):
 
 
 def main(arguments):
-    program = arguments[0] if arguments else "target/bin/vectors"
+    program = arguments[0] if arguments else "crates/vectors/out/vectors"
     good = True
     for chunks, times in ((2, 200), (64, 10)):
         short, long = (time_of(program, n, chunks, times * factor) for n, factor in ((SHORT, 4), (LONG, 1)))

@@ -1,7 +1,9 @@
-// The static library: each public call for a program in C or Rust, declared in include/grugalash.h. A run of words or bytes crosses as
-// an address and a length; an answer as its number, 0 on success, with its value written where the caller says. Each function answers,
-// and leaves what it was lent, as the public call does: its contract is an equation over the definitions that the call's own contract cites.
+// Each public call as a program in C or Rust makes it, declared in include/grugalash.h; the crate grugalash_c builds the static library of
+// them. A run of words or bytes crosses as an address and a length; an answer as its number, 0 on success, with its value written where the
+// caller says. Each function answers, and leaves what it was lent, as the public call does: its contract is an equation over the
+// definitions that the call's own contract cites.
 #![tactic(auto)]
+
 mod answers;
 
 ghost use Rattle.std.specs.Prelude.{◌≡◌, length};
@@ -210,6 +212,7 @@ pub extern "C" fn grugalash_parse(
 }
 
 // Where the tokens of a report entry start in the token run: 0 for the part of no tokens.
+#[tactic(auto, unfolding(report::specs::ReportCall::entry_start))]
 fn entry_start(report: &[u16], entry: usize, count: usize) -> usize
     ensures { result ≡ entry_start report.now entry count }
 {

@@ -1,6 +1,19 @@
 // The input: a stream of 16-bit words, low byte first, and runs of words given by patterns.
 ghost use Rattle.std.specs.Prelude.{◌<◌, ◌≤◌, length};
 
+// What is left of the input.
+#[derive(Drop)]
+pub struct Input<'a> {
+    rest: &'a [u8],
+}
+
+impl<'a> Input<'a> {
+    // The input before its first word.
+    pub(crate) fn new(bytes: &'a [u8]) -> Input<'a> {
+        Input { rest: bytes }
+    }
+}
+
 // A byte as a wider number.
 pub(crate) fn wide_byte(byte: u8) -> u64
     ensures { result < 256 }
@@ -9,46 +22,46 @@ pub(crate) fn wide_byte(byte: u8) -> u64
 }
 
 // The next word of the input; 65,536 where there is none.
-pub(crate) fn next_word() -> u32
+pub(crate) fn next_word(input: &mut Input) -> u32
     ensures { result ≤ 65536 }
 {
-    let mut two = [0u8; 2];
-    let got = io::read_full(0, &mut two);
-    if got < 2 {
+    let rest = input.rest;
+    if rest.len() < 2 {
         return 65536;
     }
-    let low = wide_byte(two[0]);
-    let high = wide_byte(two[1]);
+    let low = wide_byte(rest[0]);
+    let high = wide_byte(rest[1]);
+    input.rest = &rest[2..];
     (low + 256 * high) as u32
 }
 
 // The next word as a word.
-pub(crate) fn next_value() -> u16 {
-    (next_word() % 65536) as u16
+pub(crate) fn next_value(input: &mut Input) -> u16 {
+    (next_word(input) % 65536) as u16
 }
 
 // A number of two words, the low one first.
-pub(crate) fn next_wide() -> u32 {
-    let low = next_word() % 65536;
-    let high = next_word() % 65536;
+pub(crate) fn next_wide(input: &mut Input) -> u32 {
+    let low = next_word(input) % 65536;
+    let high = next_word(input) % 65536;
     low + 65536 * high
 }
 
 // Reads a piece of a run from place `at` on, and answers where it ends: how long it is, how long its pattern is, and the pattern,
 // which is repeated to the piece's end. A piece that the run has no room for is left out.
-fn read_piece(run: &mut [u16], at: usize) -> usize
+fn read_piece(input: &mut Input, run: &mut [u16], at: usize) -> usize
     requires { at ≤ length run.old }
     ensures { result ≤ length run.old }
 {
-    let size = next_word() as usize;
-    let back = next_word() as usize;
+    let size = next_word(input) as usize;
+    let back = next_word(input) as usize;
     if run.len() - at < size {
         return at;
     }
     let mut i = 0;
     while i < size {
         let word = if i < back {
-            next_value()
+            next_value(input)
         } else {
             run[at + i - back]
         };
@@ -59,13 +72,13 @@ fn read_piece(run: &mut [u16], at: usize) -> usize
 }
 
 // Reads a run, the number of its pieces and then those, and answers its length.
-pub(crate) fn read_run(run: &mut [u16]) -> usize
+pub(crate) fn read_run(input: &mut Input, run: &mut [u16]) -> usize
     ensures { result ≤ length run.old }
 {
-    let mut left = next_word();
+    let mut left = next_word(input);
     let mut at = 0;
     while 0 < left {
-        at = read_piece(run, at);
+        at = read_piece(input, run, at);
         left -= 1;
     }
     at

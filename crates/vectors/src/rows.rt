@@ -5,13 +5,15 @@
 //     10, 11, 12 a word of the area, a byte of the matrix, a word of the grammar is changed: its place and the new value
 //     13 the area's words are shown                 14 the first words of the report's run are shown
 // 0 ends the schedule. A call answers its number, value and moves, and the sum of what it was lent to write.
-use crate::shown::Told;
-use crate::{input, shown};
+use crate::input::Input;
+use crate::shown::{Output, Told};
+use crate::{Streams, input, shown};
 use refusals::Answer;
+use std::io::Write;
 
 // A run's budget; 65,535 stands for the greatest.
-fn next_budget() -> u32 {
-    let word = input::next_word();
+fn next_budget(input: &mut Input) -> u32 {
+    let word = input::next_word(input);
     if word < 65535 {
         return word;
     }
@@ -36,6 +38,7 @@ fn read_row(words: &[u16], matrix: &[u8], area: &mut [u16], chunks: usize) {
 
 // A call that is lent the area to write.
 fn area_call(
+    input: &mut Input,
     call: u32,
     chunk: usize,
     words: &[u16],
@@ -51,7 +54,7 @@ fn area_call(
         return shown::told_answer(reader::step(words, matrix, area, chunk));
     }
     if call == 3 {
-        return shown::told_run(reader::run(words, matrix, area, chunk, next_budget()));
+        return shown::told_run(reader::run(words, matrix, area, chunk, next_budget(input)));
     }
     if call == 4 {
         return shown::told_answer(reader::join(words, matrix, area, chunk));
@@ -61,7 +64,8 @@ fn area_call(
 }
 
 // The report, or the one-call parse, into a run of nines; with it the sum of the run, for the parse of area and run.
-fn report_call(
+fn report_call<W: Write>(
+    output: &mut Output<W>,
     before: u64,
     call: u32,
     words: &[u16],
@@ -74,15 +78,16 @@ fn report_call(
     input::fill_words(out, 9);
     if call == 6 {
         let it = shown::told_report(report::report(words, matrix, area, out));
-        return shown::tell(before, it, shown::sum_of_words(out), aloud);
+        return shown::tell(output, before, it, shown::sum_of_words(out), aloud);
     }
     let it = shown::told_report(parse::parse(words, tokens, area, out));
     let sum = shown::folded(shown::sum_of_words(area), shown::sum_of_words(out));
-    shown::tell(before, it, sum, aloud)
+    shown::tell(output, before, it, sum, aloud)
 }
 
 // A call that is lent a report's run to write.
-fn out_call(
+fn out_call<W: Write>(
+    streams: &mut Streams<W>,
     before: u64,
     call: u32,
     words: &[u16],
@@ -92,11 +97,12 @@ fn out_call(
     out: &mut [u16],
     aloud: bool,
 ) -> u64 {
-    let room = input::next_word() as usize;
+    let room = input::next_word(&mut streams.input) as usize;
     if out.len() < room {
         return before;
     }
     report_call(
+        &mut streams.output,
         before,
         call,
         words,
@@ -118,9 +124,15 @@ fn keep(call: u32, area: &mut [u16], kept: &mut [u16; 115100]) {
 }
 
 // One word or byte changed.
-fn change(call: u32, words: &mut [u16], matrix: &mut [u8; 4096], area: &mut [u16]) {
-    let at = input::next_word() as usize;
-    let value = input::next_value();
+fn change(
+    input: &mut Input,
+    call: u32,
+    words: &mut [u16],
+    matrix: &mut [u8; 4096],
+    area: &mut [u16],
+) {
+    let at = input::next_word(input) as usize;
+    let value = input::next_value(input);
     if call == 10 {
         input::change_word(area, at, value);
     } else if call == 11 {
@@ -131,19 +143,20 @@ fn change(call: u32, words: &mut [u16], matrix: &mut [u8; 4096], area: &mut [u16
 }
 
 // The words of the area, or the first ones of the report's run.
-fn show_row(call: u32, area: &[u16], out: &[u16]) {
+fn show_row<W: Write>(streams: &mut Streams<W>, call: u32, area: &[u16], out: &[u16]) {
     if call == 13 {
-        shown::show_words(area);
+        shown::show_words(&mut streams.output, area);
         return;
     }
-    let count = input::next_word() as usize;
+    let count = input::next_word(&mut streams.input) as usize;
     if count <= out.len() {
-        shown::show_words(&out[..count]);
+        shown::show_words(&mut streams.output, &out[..count]);
     }
 }
 
 // One of the calls 1 to 7, and the sum of all the answers so far.
-fn one_call(
+fn one_call<W: Write>(
+    streams: &mut Streams<W>,
     before: u64,
     call: u32,
     chunk: usize,
@@ -156,14 +169,32 @@ fn one_call(
     aloud: bool,
 ) -> u64 {
     if call < 6 {
-        let it = area_call(call, chunk, words, matrix, tokens, cuts, area);
-        return shown::tell(before, it, shown::sum_of_words(area), aloud);
+        let it = area_call(
+            &mut streams.input,
+            call,
+            chunk,
+            words,
+            matrix,
+            tokens,
+            cuts,
+            area,
+        );
+        return shown::tell(
+            &mut streams.output,
+            before,
+            it,
+            shown::sum_of_words(area),
+            aloud,
+        );
     }
-    out_call(before, call, words, matrix, tokens, area, out, aloud)
+    out_call(
+        streams, before, call, words, matrix, tokens, area, out, aloud,
+    )
 }
 
 // A schedule to its end, and the sum of all its answers.
-fn schedule(
+fn schedule<W: Write>(
+    streams: &mut Streams<W>,
     words: &mut [u16],
     matrix: &mut [u8; 4096],
     tokens: &[u16],
@@ -176,7 +207,7 @@ fn schedule(
     let mut sum = 0;
     let mut left: u32 = 1000000;
     while 0 < left {
-        let word = input::next_word();
+        let word = input::next_word(&mut streams.input);
         let call = word % 16;
         if call == 0 {
             return sum;
@@ -185,14 +216,14 @@ fn schedule(
         if call < 8 {
             let chunk = (word / 16) as usize;
             sum = one_call(
-                sum, call, chunk, words, matrix, tokens, cuts, area, out, aloud,
+                streams, sum, call, chunk, words, matrix, tokens, cuts, area, out, aloud,
             );
         } else if call < 10 {
             keep(call, area, kept);
         } else if call < 13 {
-            change(call, words, matrix, area);
+            change(&mut streams.input, call, words, matrix, area);
         } else {
-            show_row(call, area, out);
+            show_row(streams, call, area, out);
         }
     }
     sum
@@ -200,19 +231,25 @@ fn schedule(
 
 // Kinds 4 and 5: tokens, cuts, how many words the area has, and a schedule, whose answers kind 4 shows one by one. The area's words
 // are nines at first.
-pub(crate) fn row_case(aloud: bool, words: &mut [u16], matrix: &mut [u8; 4096]) {
+pub(crate) fn row_case<W: Write>(
+    streams: &mut Streams<W>,
+    aloud: bool,
+    words: &mut [u16],
+    matrix: &mut [u8; 4096],
+) {
     let mut tokens = [0u16; 16400];
     let mut cuts = [0u16; 80];
     let mut area = [9u16; 115100];
     let mut kept = [0u16; 115100];
     let mut out = [0u16; 49200];
-    let n = input::read_run(&mut tokens);
-    let chunks = input::read_run(&mut cuts);
-    let room = input::next_wide() as usize;
+    let n = input::read_run(&mut streams.input, &mut tokens);
+    let chunks = input::read_run(&mut streams.input, &mut cuts);
+    let room = input::next_wide(&mut streams.input) as usize;
     if 115100 < room {
         return;
     }
-    shown::show(schedule(
+    let sum = schedule(
+        streams,
         words,
         matrix,
         &tokens[..n],
@@ -221,26 +258,28 @@ pub(crate) fn row_case(aloud: bool, words: &mut [u16], matrix: &mut [u8; 4096]) 
         &mut kept,
         &mut out,
         aloud,
-    ));
-    shown::line_end();
+    );
+    shown::show(&mut streams.output, sum);
+    shown::line_end(&mut streams.output);
 }
 
 // The tokens of so many entries of a report's run: how many, and which.
-fn show_entries(report: &[u16], tokens: &[u16]) {
-    let mut left = input::next_word();
+fn show_entries<W: Write>(streams: &mut Streams<W>, report: &[u16], tokens: &[u16]) {
+    let mut left = input::next_word(&mut streams.input);
     while 0 < left {
-        let part = report::entry_tokens(report, input::next_wide() as usize, tokens);
-        shown::show(part.len() as u64);
-        shown::show_words(part);
+        let entry = input::next_wide(&mut streams.input) as usize;
+        let part = report::entry_tokens(report, entry, tokens);
+        shown::show(&mut streams.output, part.len() as u64);
+        shown::show_words(&mut streams.output, part);
         left -= 1;
     }
 }
 
 // Kind 7: tokens, a report's run, and the entries whose tokens are asked.
-pub(crate) fn entries_case() {
+pub(crate) fn entries_case<W: Write>(streams: &mut Streams<W>) {
     let mut tokens = [0u16; 16400];
     let mut report = [0u16; 49200];
-    let n = input::read_run(&mut tokens);
-    let size = input::read_run(&mut report);
-    show_entries(&report[..size], &tokens[..n]);
+    let n = input::read_run(&mut streams.input, &mut tokens);
+    let size = input::read_run(&mut streams.input, &mut report);
+    show_entries(streams, &report[..size], &tokens[..n]);
 }

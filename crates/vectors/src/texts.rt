@@ -1,36 +1,44 @@
 // Cases of the text of the program `rows`: its three lines read in pieces, and its answer's lines as bytes.
 ghost use Rattle.std.specs.Prelude.{◌<◌, ◌≤◌};
 
-use crate::{input, shown};
-use libc::STDOUT_FILENO;
+use crate::input::Input;
+use crate::shown::Output;
+use crate::{Streams, input, shown};
+use std::io::Write;
 use text::reading;
 use text::reading::{State, TextAnswer};
 
 // The sum of a buffer's first numbers.
-fn show_first(numbers: &[u16], count: usize) {
+fn show_first<W: Write>(output: &mut Output<W>, numbers: &[u16], count: usize) {
     if count <= numbers.len() {
-        shown::show(shown::sum_of_words(&numbers[..count]));
+        shown::show(output, shown::sum_of_words(&numbers[..count]));
     }
 }
 
 // What a text says: 0 and the first bad line, or how many numbers each of the three lines has, and their sums.
-fn show_text(answer: TextAnswer, words: &[u16; 2564], tokens: &[u16; 1024], cuts: &[u16; 64]) {
+fn show_text<W: Write>(
+    output: &mut Output<W>,
+    answer: TextAnswer,
+    words: &[u16; 2564],
+    tokens: &[u16; 1024],
+    cuts: &[u16; 64],
+) {
     match answer {
-        TextAnswer::More => shown::show(4),
+        TextAnswer::More => shown::show(output, 4),
         TextAnswer::BadLine(line) => {
-            shown::show(0);
-            shown::show(line as u64);
+            shown::show(output, 0);
+            shown::show(output, line as u64);
         }
         TextAnswer::Lines(n, m, c) => {
-            shown::show(n as u64);
-            shown::show(m as u64);
-            shown::show(c as u64);
-            show_first(words, n);
-            show_first(tokens, m);
-            show_first(cuts, c);
+            shown::show(output, n as u64);
+            shown::show(output, m as u64);
+            shown::show(output, c as u64);
+            show_first(output, words, n);
+            show_first(output, tokens, m);
+            show_first(output, cuts, c);
         }
     }
-    shown::line_end();
+    shown::line_end(output);
 }
 
 // Where a piece of a text ends that starts at place `at`; the last one may be shorter, and one of no bytes is the whole rest.
@@ -67,37 +75,38 @@ fn feed_all(
 }
 
 // A text in pieces of one size, and what it says.
-fn read_pieces(bytes: &[u8], size: usize) {
+fn read_pieces<W: Write>(output: &mut Output<W>, bytes: &[u8], size: usize) {
     let mut words = [0u16; 2564];
     let mut tokens = [0u16; 1024];
     let mut cuts = [0u16; 64];
     let state = feed_all(bytes, size, &mut words, &mut tokens, &mut cuts);
-    show_text(reading::finish(state), &words, &tokens, &cuts);
+    show_text(output, reading::finish(state), &words, &tokens, &cuts);
 }
 
 // A text in pieces of each size that is given.
-fn read_each(bytes: &[u8]) {
-    let mut left = input::next_word();
+fn read_each<W: Write>(streams: &mut Streams<W>, bytes: &[u8]) {
+    let mut left = input::next_word(&mut streams.input);
     while 0 < left {
-        read_pieces(bytes, input::next_word() as usize);
+        let size = input::next_word(&mut streams.input) as usize;
+        read_pieces(&mut streams.output, bytes, size);
         left -= 1;
     }
 }
 
 // Kind 8: a text, byte by byte, and the sizes of the pieces that it is read in.
-pub(crate) fn reading_case() {
+pub(crate) fn reading_case<W: Write>(streams: &mut Streams<W>) {
     let mut run = [0u16; 16400];
     let mut bytes = [0u8; 16400];
-    let n = input::read_run(&mut run);
+    let n = input::read_run(&mut streams.input, &mut run);
     input::copy_bytes(&run, &mut bytes);
-    read_each(&bytes[..n]);
+    read_each(streams, &bytes[..n]);
 }
 
 // A line of the answer with its numbers: 0 parse, 1 entry, 2 refused, 3 text; where it ends.
-fn put(line: u32, bytes: &mut [u8], at: usize) -> usize {
-    let a = input::next_wide();
-    let b = input::next_wide();
-    let c = input::next_wide();
+fn put(input: &mut Input, line: u32, bytes: &mut [u8], at: usize) -> usize {
+    let a = input::next_wide(input);
+    let b = input::next_wide(input);
+    let c = input::next_wide(input);
     if line == 0 {
         return lines::put_parse(bytes, at, a, b, c);
     }
@@ -111,23 +120,24 @@ fn put(line: u32, bytes: &mut [u8], at: usize) -> usize {
 }
 
 // Lines of the answer, from a place of a run of bytes on: where each ends, and the run.
-fn put_lines(bytes: &mut [u8]) {
-    let mut at = input::next_word() as usize;
-    let mut left = input::next_word();
+fn put_lines<W: Write>(streams: &mut Streams<W>, bytes: &mut [u8]) {
+    let mut at = input::next_word(&mut streams.input) as usize;
+    let mut left = input::next_word(&mut streams.input);
     while 0 < left {
-        at = put(input::next_word(), bytes, at);
-        shown::show(at as u64);
+        let line = input::next_word(&mut streams.input);
+        at = put(&mut streams.input, line, bytes, at);
+        shown::show(&mut streams.output, at as u64);
         left -= 1;
     }
-    io::write_all(STDOUT_FILENO, bytes);
-    shown::line_end();
+    streams.output.write(bytes);
+    shown::line_end(&mut streams.output);
 }
 
 // Kind 9: how many bytes there are for them, each a `#`, and lines of an answer.
-pub(crate) fn writing_case() {
+pub(crate) fn writing_case<W: Write>(streams: &mut Streams<W>) {
     let mut bytes = [b'#'; 16400];
-    let room = input::next_word() as usize;
+    let room = input::next_word(&mut streams.input) as usize;
     if room <= 16400 {
-        put_lines(&mut bytes[..room]);
+        put_lines(streams, &mut bytes[..room]);
     }
 }

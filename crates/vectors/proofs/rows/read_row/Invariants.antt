@@ -1,0 +1,8 @@
+use Rattle.std.proofs.Common.{◌-◌}
+use Rattle.vectors.proofs.rows.read_row.Given as goal
+
+abbrev pub decreases-loop-c : goal.decreases-loop-c
+decreases-loop-c l = l.chunks - l.c
+
+abbrev pub decreases-loop-joined : goal.decreases-loop-joined
+decreases-loop-joined l = l.chunks - l.joined
