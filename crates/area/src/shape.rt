@@ -11,7 +11,7 @@ ghost use Rattle.area.specs.ShapeCode.{Sized, Few, Within, Countable};
 
 // Where a scan of one side of a chunk stands: within a symbol of `size` slots, `within` of them to come; how many symbols,
 // terminals other than # and marks it has passed.
-#[derive(Drop)]
+#[derive(Clone, Copy)]
 pub struct Scan {
     pub ok: bool,
     pub within: u16,
@@ -23,7 +23,7 @@ pub struct Scan {
 
 // Where a walk of the chunk table stands: the slot where the last live chunk ends; how many live chunks there were, how many not stuck,
 // and how many symbols unread, symbols in all and terminals other than # they have.
-#[derive(Drop)]
+#[derive(Clone, Copy)]
 pub struct Walk {
     pub ok: bool,
     pub at: u16,
