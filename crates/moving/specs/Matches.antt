@@ -37,11 +37,11 @@ readable {words} l = record { some-rule = l.headed.some-rule; long = l.present; 
 
 module _ {area : List ℕ} where
   -- one block more on top
-  whole-more : {s m e : ℕ} → Whole area m s → 0 < slot_word area m 2 → m + slot_word area m 2 ≡ e → Whole area e s
+  whole-more : {m s e : ℕ} → Whole area m s → 0 < slot_word area m 2 → m + slot_word area m 2 ≡ e → Whole area e s
   whole-more (no_block q) h k = rw q (a_block h (no_block k))
   whole-more (a_block b w) h k = a_block b (whole-more w h k)
 
-  handle-more : {s m e : ℕ} → Whole area m s → 0 < slot_word area m 2 → m + slot_word area m 2 ≡ e
+  handle-more : {m s e : ℕ} → Whole area m s → 0 < slot_word area m 2 → m + slot_word area m 2 ≡ e
       → handle_words area s e ≡ handle_words area s m ++ (slot_word area m 0 ∷ [])
   handle-more {m = m} {e = e} (no_block q) h k =
       rw (q, handle-cons (a_block h (no_block k)) (omega arith), handle-none area (m + slot_word area m 2) e (omega arith), handle-none area m m (omega arith))

@@ -84,7 +84,7 @@ fits-of {t} {N} {n} {from} (some c ∷ chunks) p r (all-fine-cons f fs) (and-chu
       unread-stands = placed_at head-is end_is (placed_of (map plain c.unread) (rw u.symbols-are p₂.left) (rw u.symbols-are r₂.0) u.fine);
       stuck-fine = k;
     })
-    (fits-of chunks (rw end_is at p₂.right) r₂.1 fs ks (room_after m))
+    (fits-of {from = from + (stack_size c.stack + unread_size c.unread)} chunks (rw end_is at p₂.right) r₂.1 fs ks (room_after m))
 
 pub kept-fits : {t N n : ℕ} {s : State Span} → Kept t N n s → AllFit t N n 0 s.chunks
 kept-fits {s = s} k = fits-of s.chunks k.tiles k.ranged k.fine k.stuck-fine (ending-room k.ending)

@@ -134,7 +134,7 @@ plain_of (nonterminal_on k v ∷ entries) h = ap {B = List (Entry Span)} (λ l. 
 pub placed_of : {t N n s e : ℕ} (entries : List (Entry Span)) → Tiles n s (map unmarked entries) e → AllInRange t N (map unmarked entries) → MarksFine entries
     → Placed t N n s entries e
 placed_of [] tiled r f = no_more refl
-placed_of (x ∷ entries) (tile l p) (in-range i r) f = then-stands (record { lies = l; ranged = i; fine = fine-first f }) (placed_of entries p r (fine-rest f))
+placed_of {s = s} (x ∷ entries) (tile l p) (in-range i r) f = then-stands (record { lies = l; ranged = i; fine = fine-first f }) (placed_of {s = s + size (unmarked x)} entries p r (fine-rest f))
 
 pub tiles-of : {t N n s e : ℕ} {entries : List (Entry Span)} → Placed t N n s entries e → Tiles n s (map unmarked entries) e
 tiles-of (no_more q) = rw q tiled

@@ -19,7 +19,7 @@ use Rattle.machine.specs.Starts.{symbols_along}
 use Rattle.machine.specs.Spans.{span_of}
 use Rattle.machine.specs.TableOf.{table_of}
 use Rattle.results.specs.RunsEnd.{MarksFine, fine-nonterminal, fine-unmarked, fine-marked}
-use Rattle.results.specs.Bounded.{AllFine, all-fine-cons}
+use Rattle.results.specs.Bounded.{AllFine, all-fine-nil, all-fine-cons}
 use Rattle.machine.specs.Allowed.{runs, HandleAbove, from-nonterminal, from-mark, up-to-unmarked, up-to-nonterminal, EndAndAxiom, end-and-axiom}
 use Rattle.machine.specs.AllowedExactly.{HandleView, a-handle}
 use Rattle.machine.proofs.AllowedExactly.{handle-symbols, handle-view, whole_from}
@@ -108,7 +108,7 @@ module _ (words bytes : List ℕ) (rule-a : rule_a words ≡ true) where
       accepting (whole_from table stack w) (eqb-true b 0 (and_both (eqb a 0) (eqb b 0) i).1) v unread chunks
   reading-row {stack} (by-rule-6 {b = b} {v = v} t r q) unread chunks = put_on stack b v unread chunks
 
-  replacing-row : {stack stack' : List (Entry Span)} {b : Unread Span} {r : ℕ} {v : Span} → MarksFine stack → Moved table stack b (replaces r v stack')
+  replacing-row : {stack : List (Entry Span)} {b : Unread Span} {r : ℕ} {v : Span} {stack' : List (Entry Span)} → MarksFine stack → Moved table stack b (replaces r v stack')
       → (unread : List (Unread Span)) (chunks : List (Chunk Span))
       → RowThen N (runs stack (b ∷ unread) ∷ chunks) (runs stack' (b ∷ unread) ∷ chunks)
   replacing-row {stack} o (by-rule-5 {b = b} {r = r} {v = v} found t k q m) unread chunks = go (rw q at (handle-view stack []))
@@ -142,6 +142,7 @@ module _ (words bytes : List ℕ) (rule-a : rule_a words ≡ true) where
       (λ l h e. absurd (omega (arith, ap length e, length-of-row c before)))
 
   pub row-then : {chunks chunks' : List (Chunk Span)} {made : List (Reduction Span)} → AllFine chunks → Changed table chunks made chunks' → RowThen N chunks chunks'
+  row-then {made = made} all-fine-nil x3 = elim x3 [ ]
   row-then (all-fine-cons o os) (moves-one {chunks = chunks} (has-read {stack = stack} {unread = unread} b h)) =
       reading-row (rw h at (moved table stack b)) unread chunks
   row-then (all-fine-cons o os) (moves-one {chunks = chunks} (has-replaced {stack = stack} {unread = unread} b h)) =

@@ -16,14 +16,14 @@ use Rattle.machine.specs.Chunks.{Chunk, joined}
 use Rattle.machine.specs.States.{State, live}
 use Rattle.machine.specs.Starts.{symbols_along}
 use Rattle.results.specs.RunsEnd.{terminals-cons, on-reading, on-replacing}
-use Rattle.results.specs.Bounded.{terminals_in, terminals-append, terminals-of-stack, length-of-stack, reading-fills, AllFine, all-fine-cons}
+use Rattle.results.specs.Bounded.{terminals_in, terminals-append, terminals-of-stack, length-of-stack, reading-fills, AllFine, all-fine-nil, all-fine-cons}
 use Rattle.machine.specs.Allowed.{HandleAbove, from-nonterminal, from-mark, up-to-unmarked, up-to-nonterminal, Steps, JoinsAt}
 use Rattle.machine.specs.AllowedExactly.{HandleView, a-handle}
 use Rattle.machine.proofs.AllowedExactly.{handle-view, step-exactly, join-exactly}
 use Rattle.machine.specs.Schedules.{IsLive, first_stack, Turned, by-step, by-join, Made, has-read, has-replaced, got-stuck, Changed, moves-one, joins-two, further}
 use Rattle.layout.specs.Layout.{marks}
 use Rattle.layout.specs.Kept.{Tiles, AllInRange, in-range, LastHolds, holds, later-holds, Ending, whole, accepted, StuckFine}
-use Rattle.layout.specs.Kept.{not_stuck, stuck-fine, AllStuckFine, and-chunk, FirstLive, first_live}
+use Rattle.layout.specs.Kept.{not_stuck, stuck-fine, AllStuckFine, no_chunk, and-chunk, FirstLive, first_live}
 use Rattle.shape.specs.Tiling.{tiles-split, tiles-join, ranged-split, ranged-join, tiles-replaced, end-is-last}
 use Rattle.layout.specs.RowCounts.{no_symbol}
 use Rattle.shape.specs.RowAfterTurn.{Alone, alone, RowThen, same-symbols, handle-replaced, end_read}
@@ -129,6 +129,7 @@ module _ {table : Table Span} where
       stuck-fine (λ q. let z : ◌≡◌ {A = ℕ} 0 1 = cc in omega arith) (λ q. let e : why ≡ no_rule = cc in no-rule-marked (rw h at (moved table stack b)) e)
 
   pub stuck-kept : {chunks chunks' : List (Chunk Span)} {made : List (Reduction Span)} → AllStuckFine chunks → Changed table chunks made chunks' → AllStuckFine chunks'
+  stuck-kept {made = made} no_chunk x3 = elim x3 [ ]
   stuck-kept (and-chunk f fs) (moves-one m) = and-chunk (made-fine m) fs
   stuck-kept (and-chunk f (and-chunk g fs)) (joins-two {c = c} {d = d} a b) = and-chunk (joined-fine c d f) fs
   stuck-kept (and-chunk f fs) (further m) = and-chunk f (stuck-kept fs m)
@@ -138,6 +139,7 @@ module _ {table : Table Span} where
 module _ {table : Table Span} (ends : EndMark table) where
   pub terminals-fall : {chunks chunks' : List (Chunk Span)} {made : List (Reduction Span)} → AllFine chunks → Changed table chunks made chunks'
       → length made + terminals_in chunks' ≤ terminals_in chunks
+  terminals-fall {made = made} all-fine-nil x3 = elim x3 [ ]
   terminals-fall (all-fine-cons o os) (moves-one (has-read {stack = stack} {unread = unread} b h)) =
       let z = on-reading table ends o (rw h at (moved table stack b)) in omega (arith, z.terminals, terminals-cons b unread)
   terminals-fall (all-fine-cons o os) (moves-one (has-replaced {stack = stack} b h)) =

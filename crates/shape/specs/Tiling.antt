@@ -24,8 +24,8 @@ pub record Split (n s : ℕ) (xs ys : List (Unread Span)) (e : ℕ) : Type 0 whe
 module _ {n : ℕ} where
   pub tiles-split : {s e : ℕ} (xs ys : List (Unread Span)) → Tiles n s (xs ++ ys) e → Split n s xs ys e
   tiles-split {s} [] ys t = record { middle = s; left = tiled; right = t }
-  tiles-split (x ∷ xs) ys (tile l t) =
-      let k = tiles-split xs ys t in record { middle = k.middle; left = tile l k.left; right = k.right }
+  tiles-split {s} (x ∷ xs) ys (tile l t) =
+      let k = tiles-split {s = s + size x} xs ys t in record { middle = k.middle; left = tile l k.left; right = k.right }
 
   pub tiles-join : {s m e : ℕ} {xs ys : List (Unread Span)} → Tiles n s xs m → Tiles n m ys e → Tiles n s (xs ++ ys) e
   tiles-join tiled u = u
