@@ -5,7 +5,7 @@
 
 // What a run has at hand of its chunk: the chunk's row of the table, the counts of reductions and of moves, the word where the slots start,
 // and the word of the topmost terminal of its stack (256 where it has none). The area holds the row and the counts once the run has ended.
-#[derive(Drop)]
+#[derive(Clone, Copy)]
 pub struct Hand {
     pub status: u16,
     pub from: u16,
@@ -19,21 +19,21 @@ pub struct Hand {
 }
 
 // The handle of a stack: the slot where it starts, and how many symbols it has.
-#[derive(Drop)]
+#[derive(Clone, Copy)]
 pub struct Handle {
     pub start: usize,
     pub count: usize,
 }
 
 // The rule of a handle, or that there is none.
-#[derive(Drop)]
+#[derive(Clone, Copy)]
 pub enum Matched {
     Rule(u16),
     NoRule,
 }
 
 // The next live chunk, or that there is none.
-#[derive(Drop)]
+#[derive(Clone, Copy)]
 pub enum Next {
     Chunk(usize),
     NoChunk,
@@ -41,7 +41,7 @@ pub enum Next {
 
 // The move that a chunk's words call for: its next symbol put on its stack with this mark (0 or 1); stuck with 17 to 20; the # of the end
 // read; the handle from this slot up replaced by this left side of this rule.
-#[derive(Drop)]
+#[derive(Clone, Copy)]
 pub enum Move {
     Push(u16),
     Stick(u16),
