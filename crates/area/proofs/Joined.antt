@@ -74,18 +74,10 @@ module _ {A : Type 0} (x y : A) where
   one-left4 true b c d h = one-left3 b c d h
   one-left4 false b c d h = refl
 
-pub kept-both : (a b : Bool) → not (a && b) ≡ false → (a ≡ true) × (b ≡ true)
+pub kept-both : (a b : Bool) → (a && b) ≡ true → (a ≡ true) × (b ≡ true)
 kept-both true true h = (refl, refl)
-kept-both true false h = absurd (true≢false h)
-kept-both false b h = absurd (true≢false h)
-
--- a truth as a number
-module _ (a : Bool) where
-  pub one-if : bool_byte a ≡ pick a 1 0
-  one-if = elim a [ true ↦ refl | false ↦ refl ]
-
-  pub one_at_most : bool_byte a ≤ 1
-  one_at_most = elim a [ true ↦ omega arith | false ↦ omega arith ]
+kept-both true false h = absurd (false≢true h)
+kept-both false b h = absurd (false≢true h)
 
 -- ---- the tests of one function each
 
@@ -140,54 +132,6 @@ pub place-tests : (tokens slot s l : ℕ) → slot ≤ tokens + 1
     ≡ place_fits tokens slot s l
 place-tests tokens slot s l h =
     rw (room-sum (tokens + 1) slot l h) (place-picks (eqb slot 0) (eqb slot (tokens + 1)) (eqb s 0) (eqb l 1) (leb (slot + l) (tokens + 1)))
-
--- where `p`, `q` and `g` are what the tests of the symbol, of its place and the tag of its first slot are
-module _ (t n tokens slot : ℕ) (st : Scan) (s m l b : ℕ) {p q : Bool} {g : ℕ} (d : p ≡ symbol_fits t n s m) (e : q ≡ place_fits tokens slot s l) (f : g ≡ tag (l - 1) l) where
-  abbrev new : Scan
-  new = record { ok = true; within = l - 1; size = l; symbols = st.symbols + 1; terminals = st.terminals + one_if_terminal s; marks = st.marks + m }
-
-  terminal-one : bool_byte (not (eqb s 0) && ltb s 256) ≡ one_if_terminal s
-  terminal-one = one-if (not (eqb s 0) && ltb s 256) ∙ go (eqb s 0) (ltb s 256)
-    where
-      go : (a c : Bool) → ◌≡◌ {A = ℕ} (pick (not a && c) 1 0) (pick a 0 (pick c 1 0))
-      go true c = refl
-      go false c = refl
-
-  module _ (h : not (not (eqb l 0) && p && q && eqb b g) ≡ true) where
-    go_left : (a : Bool) → not (not a && symbol_fits t n s m && place_fits tokens slot s l && eqb b (tag (l - 1) l)) ≡ true
-        → pick a broken (pick (symbol_fits t n s m) (pick (place_fits tokens slot s l) (pick (eqb b (tag (l - 1) l)) new broken) broken) broken) ≡ broken
-    go_left true k = refl
-    go_left false k = one-left3 new broken (symbol_fits t n s m) (place_fits tokens slot s l) (eqb b (tag (l - 1) l)) k
-
-    pub opened-left : broken ≡ opened t n tokens slot st s m l b
-    opened-left = sym (go_left (eqb l 0) (rw (d, e, f) at h))
-
-  module _ (h : not (not (eqb l 0) && p && q && eqb b g) ≡ false) where
-    pub opened_some : l ≡ 0 → ⊥
-    opened_some z = true≢false (rw z at h)
-
-    pub opened-symbol : symbol_fits t n s m ≡ true
-    opened-symbol = go (not (eqb l 0)) (symbol_fits t n s m) (place_fits tokens slot s l) (eqb b (tag (l - 1) l)) (rw (d, e, f) at h)
-      where
-        go : (a u v w : Bool) → not (a && u && v && w) ≡ false → u ≡ true
-        go true true v w k = refl
-        go true false v w k = absurd (true≢false k)
-        go false u v w k = absurd (true≢false k)
-
-    go-kept : (a : Bool) → not (not a && symbol_fits t n s m && place_fits tokens slot s l && eqb b (tag (l - 1) l)) ≡ false
-        → pick a broken (pick (symbol_fits t n s m) (pick (place_fits tokens slot s l) (pick (eqb b (tag (l - 1) l)) new broken) broken) broken) ≡ new
-    go-kept true k = absurd (true≢false k)
-    go-kept false k = all-kept3 new broken (symbol_fits t n s m) (place_fits tokens slot s l) (eqb b (tag (l - 1) l)) k
-
-    pub opened-kept : record {
-      ok = true;
-      within = l - 1;
-      size = l;
-      symbols = st.symbols + 1;
-      terminals = st.terminals + bool_byte (not (eqb s 0) && ltb s 256);
-      marks = st.marks + m;
-    } ≡ opened t n tokens slot st s m l b
-    opened-kept = rw terminal-one (sym (go-kept (eqb l 0) (rw (d, e, f) at h)))
 
 -- where `g` is the tag that the slot must have
 module _ (st : Scan) (s m l b : ℕ) {g : ℕ} (e : g ≡ tag (st.within - 1) st.size) where
@@ -267,24 +211,24 @@ module _ {A : Type 0} (live gone wrong : A) where
   row-gone true false c s d h = absurd (false≢true h)
   row-gone false b c s d h = absurd (false≢true h)
 
-  pub row-wrong : (a b c s d : Bool) → (a && b && c) ≡ false → not (a && pick s d false) ≡ true → wrong ≡ row a b c s d
+  pub row-wrong : (a b c s d : Bool) → (a && b && c) ≡ false → (a && pick s d false) ≡ false → wrong ≡ row a b c s d
   row-wrong true true true s d h k = absurd (true≢false h)
   row-wrong true true false s d h k = refl
-  row-wrong true false c true true h k = absurd (false≢true k)
+  row-wrong true false c true true h k = absurd (true≢false k)
   row-wrong true false c true false h k = refl
   row-wrong true false c false d h k = refl
   row-wrong false b c s d h k = refl
 
-  pub row-live : (a b c s d : Bool) → not (a && pick s d false) ≡ false → (s ≡ true → b ≡ false) → live ≡ row a b c s d
+  pub row-live : (a b c s d : Bool) → (a && pick s d false) ≡ true → (s ≡ true → b ≡ false) → live ≡ row a b c s d
   row-live true true c true d k l = absurd (true≢false (l refl))
   row-live true false c true true k l = refl
-  row-live true false c true false k l = absurd (true≢false k)
-  row-live true b c false d k l = absurd (true≢false k)
-  row-live false b c s d k l = absurd (true≢false k)
+  row-live true false c true false k l = absurd (false≢true k)
+  row-live true b c false d k l = absurd (false≢true k)
+  row-live false b c s d k l = absurd (false≢true k)
 
 -- both tests of a row that is live
-pub row-bounds : (a s d : Bool) → not (a && pick s d false) ≡ false → d ≡ true
+pub row-bounds : (a s d : Bool) → (a && pick s d false) ≡ true → d ≡ true
 row-bounds true true true k = refl
-row-bounds true true false k = absurd (true≢false k)
-row-bounds true false d k = absurd (true≢false k)
-row-bounds false s d k = absurd (true≢false k)
+row-bounds true true false k = absurd (false≢true k)
+row-bounds true false d k = absurd (false≢true k)
+row-bounds false s d k = absurd (false≢true k)

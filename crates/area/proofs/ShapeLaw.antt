@@ -6,7 +6,7 @@ use Prim.Native.Nat.{ℕ, zero, suc, ◌+◌, ◌*◌, ◌-◌, ◌<◌, ◌≤�
 use mir.Syntax.{w16, w64}
 use mir.Val.{Fits}
 use mathlib.Core.Path.{◌≡◌, refl, sym, ap, ◌∙◌}
-use mathlib.Core.Bool.{Bool, true, false, not, ◌&&◌, false≢true}
+use mathlib.Core.Bool.{Bool, true, false, ◌&&◌, false≢true, true≢false}
 use mathlib.Core.List.{List, [], ◌∷◌}
 use native.Mathlib.Omega.{arith}
 use native.Mathlib.Nat.{mul-le-mul_right, mul-le-mul_left}
@@ -14,7 +14,7 @@ use native.Mathlib.Decide.{dec_le}
 use lib.ListN.{length, get_or, drop}
 use lib.Dec.{leb, ltb, eqb}
 use lib.Seq.{drop-drop, get_or-drop}
-use borrow.Author.Tests.{leb-true, eqb-true, ne_eqb, lt-leb, le-leb, not-true, not-false}
+use borrow.Author.Tests.{leb-true, eqb-true, ne_eqb, lt-leb, le-leb}
 use Rattle.laws.specs.Picks.{pick, all_of, each_of, pick-with}
 use Rattle.language.specs.Words.{count_t, count_n}
 use Rattle.layout.specs.Layout.{need, slots_at}
@@ -65,12 +65,12 @@ short area h = go (leb 1 (get_or area 0 0)) (leb (get_or area 0 0) 16384) (leb 1
 -- ---- the whole
 
 module _ (words matrix area : List ℕ) where
-  pub shape-left : not (grammar_in_shape words matrix && rule_c area) ≡ true → false ≡ in_shape words matrix area
+  pub shape-left : (grammar_in_shape words matrix && rule_c area) ≡ false → false ≡ in_shape words matrix area
   unfolding in_shape area_in_shape
   shape-left h = go (grammar_in_shape words matrix) (rule_c area) h
     where
-      go : (a b : Bool) → not (a && b) ≡ true → false ≡ pick a (pick b (walk_fits area (walk_of (count_t words) (count_n words) area)) false) false
-      go true true h = absurd (false≢true h)
+      go : (a b : Bool) → (a && b) ≡ false → false ≡ pick a (pick b (walk_fits area (walk_of (count_t words) (count_n words) area)) false) false
+      go true true h = absurd (true≢false h)
       go true false h = refl
       go false b h = refl
 
@@ -265,11 +265,11 @@ module _ (t n : ℕ) (area : List ℕ) (w : Walk) (x f h e y : ℕ) where
   line-gone g = row-gone next w fallen w.ok (eqb x 0) (gone_fits f h e y) status bounds (rw (gone-tests f h e y) at g)
 
   module _ {p : Bool} (d : p ≡ pick status bounds false) where
-    pub line-unfit : (w.ok && eqb x 0 && (eqb f 0 && eqb h 0 && eqb e 0 && eqb y 0)) ≡ false → not (w.ok && p) ≡ true → fallen ≡ line_of t n area w x f h e y
+    pub line-unfit : (w.ok && eqb x 0 && (eqb f 0 && eqb h 0 && eqb e 0 && eqb y 0)) ≡ false → (w.ok && p) ≡ false → fallen ≡ line_of t n area w x f h e y
     unfolding line_of
     line-unfit g k = row-wrong next w fallen w.ok (eqb x 0) (gone_fits f h e y) status bounds (rw (gone-tests f h e y) at g) (rw d at k)
 
-    module _ (k : not (w.ok && p) ≡ false) where
+    module _ (k : (w.ok && p) ≡ true) where
       pub line-bounded : Bounded (get_or area 0 0) w.at f h e
       line-bounded = bounded_of (get_or area 0 0) w.at f h e (row-bounds w.ok status bounds (rw d at k))
 
@@ -281,11 +281,11 @@ module _ (t n : ℕ) (area : List ℕ) (w : Walk) (x f h e y : ℕ) where
         sides : r ≡ sides_fit (side t n area f h) (side t n area h e) x h e y
         sides = rw (ss, us) at rs
 
-        pub sides-unfit : not r ≡ true → fallen ≡ line_of t n area w x f h e y
-        sides-unfit j = (let q : next ≡ fallen = simp (sym sides ∙ not-true r j) in sym q) ∙ by-sides
+        pub sides-unfit : r ≡ false → fallen ≡ line_of t n area w x f h e y
+        sides-unfit j = (let q : next ≡ fallen = simp (sym sides ∙ j) in sym q) ∙ by-sides
 
-        pub line-fit : not r ≡ false → counted w stack unread x e ≡ line_of t n area w x f h e y
-        line-fit j = rw (ss, us) ((let q : next ≡ counted w (side t n area f h) (side t n area h e) x e = simp (sym sides ∙ not-false r j) in sym q) ∙ by-sides)
+        pub line-fit : r ≡ true → counted w stack unread x e ≡ line_of t n area w x f h e y
+        line-fit j = rw (ss, us) ((let q : next ≡ counted w (side t n area f h) (side t n area h e) x e = simp (sym sides ∙ j) in sym q) ∙ by-sides)
 
 -- ---- words that are read one after another, from a place on
 
