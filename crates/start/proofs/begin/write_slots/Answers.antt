@@ -8,7 +8,7 @@ loop-cleared-preserved c =
     let l = c.loop-cleared in
     record {
       long = simp length-set l.invariant.long;
-      left = sym (zeros-more l.area (c.loop-i.at + 4) (3 * length c.args.tokens.now) l.cleared c.loop-cleared-test.true) ∙ l.invariant.left;
+      left = sym (zeros-more l.area _ _ l.cleared c.loop-cleared-test.true) ∙ l.invariant.left;
     }
 
 pub returns : goal.returns
@@ -17,9 +17,7 @@ returns c =
     let l = c.loop-i in
     let made = l.at + 4 in
     let past : made ≡ c.args.base + 4 * (length tokens + 2) = omega arith in
-    let slots =
-    c.write_slot-2.ensures ∙ sym (slots-last l.area tokens l.at l.i c.loop-i-test.false) ∙ l.invariant.left
-    ∙ rw c.write_slot.ensures (slots-first c.args.area.now tokens c.args.base)
-    in
-    sym (zeros-last c.loop-cleared.area made (3 * length tokens) c.loop-cleared.cleared c.loop-cleared-test.false) ∙ c.loop-cleared.invariant.left
+    let laid = c.write_slot-2.ensures ∙ sym (slots-last l.area tokens l.at l.i c.loop-i-test.false) ∙ l.invariant.left in
+    let slots = laid ∙ rw c.write_slot.ensures (slots-first c.args.area.now tokens c.args.base) in
+    sym (zeros-last c.loop-cleared.area made _ c.loop-cleared.cleared c.loop-cleared-test.false) ∙ c.loop-cleared.invariant.left
     ∙ rw slots (slots-stored c.args.area.now tokens c.args.base made past)
