@@ -3,16 +3,11 @@
 -- Rests on Start, StartWords and StartChecks.
 --
 -- Main statements: rows_more, rows_last, slots-more, slots-last, zeros-more, zeros-last (a turn of each loop, and its end),
--- slots-stored, start-stored; refuses, area-started (what start leaves).
-use mathlib.Core.Path.{◌≡◌, sym, ap, ◌∙◌}
-use mir.Syntax.{w16, w32, w64}
-use mir.Val.{Fits}
-use mathlib.Core.List.{List, ◌++◌}
-use Prim.Native.Nat.{ℕ, suc, ◌+◌, ◌*◌, ◌-◌, ◌≤◌, ◌<◌}
-use native.Mathlib.Numerals.{add-one, add-four, add_five}
-use native.Mathlib.Omega.{arith}
-use lib.ListN.{length, get_or, set, drop, drop_of_length-le}
-use lib.Seq.{sets, sets-eq, drop-cons}
+-- slots-stored, start-stored; area_kept, area-started (what start leaves).
+use Rattle.std.proofs.Common.{◌≡◌, sym, ap, ◌∙◌, List, ◌++◌, ℕ, suc, ◌+◌, ◌*◌, ◌-◌, ◌≤◌, ◌<◌, length, get_or, drop, drop_of_length-le, drop-cons, add-one, arith}
+use Rattle.std.proofs.Math.ListN.{set}
+use Rattle.std.proofs.Math.Numerals.{add-four, add_five}
+use Rattle.std.proofs.lemmas.List.Edits.{sets, sets-eq}
 use Rattle.laws.specs.Parts.{sets-append}
 use Rattle.refusals.specs.declared.Refusal.{Refusal}
 use Rattle.refusals.specs.declared.Answer.TheVariants.{Done, Refused}
@@ -20,7 +15,7 @@ use Rattle.layout.specs.Layout.{need, zeros}
 use Rattle.start.specs.Start.{start_answer, started_area, start_area}
 use Rattle.start.specs.StartWords.{start_front, start_row, start_rows, start_slot, unread_slots, start_slots, start_words, length-start-rows, length-start-slots}
 use Rattle.start.specs.StartWords.{start-words, start-words-length}
-use Rattle.start.specs.StartChecks.{Writable, writable, right-cuts}
+use Rattle.start.specs.StartChecks.{writable, right-cuts}
 
 module _ (area cuts : List ℕ) (n from head at i : ℕ) where
   pub rows_more : i < length cuts
@@ -66,43 +61,7 @@ slots-stored area tokens base made e =
     let m : made ≡ base + length (start_slots tokens) = omega (arith, length-start-slots tokens) in
     sym (sets-append area base (start_slots tokens) (zeros (3 * length tokens)) ∙ ap (λ k. sets (sets area base (start_slots tokens)) k (zeros (3 * length tokens))) (sym m))
 
--- ---- the numbers of start
-
-pub token-fits : {i n : ℕ} → i < n → n ≤ 16384 → Fits w32 i
-token-fits h few = omega arith
-
-pub cut_fits : {i : ℕ} → i ≤ 63 → Fits w32 i
-cut_fits low = omega arith
-
-pub count_fits : {n : ℕ} → n ≤ 16384 → Fits w16 n
-count_fits few = omega arith
-
--- the words needed, where the search of the cuts has stopped at most at 63
-module _ {n count stop : ℕ} (few : n ≤ 16384) (h : count ≤ stop) (low : stop ≤ 63) where
-  pub seven-fit : Fits w64 (7 * n)
-  seven-fit = omega arith
-
-  pub chunks_fit : Fits w64 (count + 1)
-  chunks_fit = omega arith
-
-  pub rows_fit : Fits w64 (5 * (count + 1))
-  rows_fit = omega arith
-
-  pub both-fit : Fits w64 (7 * n + 5 * (count + 1))
-  both-fit = omega arith
-
-  pub need-fits : Fits w64 (7 * n + 5 * (count + 1) + 13)
-  need-fits = omega arith
-
-  pub need-told : Fits w32 (7 * n + 5 * (count + 1) + 13)
-  need-told = omega arith
-
 -- ---- the whole
-
--- the words of the row are there, in an area that is as long as the one lent
-pub slots-there : {tokens cuts : List ℕ} {room : ℕ} → Writable tokens cuts room → {long : ℕ} → long ≡ room
-    → 5 + 5 * (length cuts + 1) + 4 * (length tokens + 2) + 3 * length tokens ≤ long
-slots-there can e = omega (arith, can.enough)
 
 -- the front, the table, and the slots with the reductions, one after the other
 pub start-stored : (area tokens cuts : List ℕ)
@@ -119,10 +78,9 @@ start-stored area tokens cuts =
 
 module _ (words matrix tokens cuts area : List ℕ) where
   -- a refusal leaves the area as it was
-  pub refuses : (refusal : Refusal) → Refused refusal ≡ start_answer words matrix tokens cuts (length area)
-      → (Refused refusal ≡ start_answer words matrix tokens cuts (length area)) × (area ≡ start_area words matrix tokens cuts area)
+  pub area_kept : (refusal : Refusal) → Refused refusal ≡ start_answer words matrix tokens cuts (length area) → area ≡ start_area words matrix tokens cuts area
   unfolding start_area
-  refuses refusal e = (e, ap (λ answer. started_area answer tokens cuts area) e)
+  area_kept refusal e = ap (λ answer. started_area answer tokens cuts area) e
 
   -- a row that starts leaves the words of the machine's start, and what stood beyond
   pub area-started : Done ≡ start_answer words matrix tokens cuts (length area) → sets area 0 (start_words tokens cuts) ≡ start_area words matrix tokens cuts area

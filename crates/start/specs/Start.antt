@@ -8,7 +8,7 @@
 use Rattle.std.specs.Prelude.{◌≡◌, refl, Bool, true, false, ◌||◌, ◌↔◌, List, [], ◌∷◌, ◌++◌, ℕ, zero, suc, ◌+◌, ◌≤◌, ◌<◌, ltb, eqb, length, get_or, drop}
 use Rattle.std.proofs.Common.{sym, ◌∙◌, true≢false, arith}
 use Rattle.std.proofs.lemmas.Bool.{false≢true}
-use Rattle.std.proofs.Math.Option.{Option, none, some}
+use Rattle.std.proofs.Math.Option.{none, some}
 use Rattle.laws.specs.Least.{Least, Nowhere, Finds, nowhere, least, first_below, first_finds}
 use Rattle.laws.specs.Tests.{ltb-true, ltb-false, lt-ltb, eqb-true}
 use Rattle.refusals.specs.declared.Refusal.TheVariants.{BadState, Empty, TooLong, BadToken, BadCut, NoRoom}

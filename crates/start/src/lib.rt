@@ -1,5 +1,6 @@
 // The start of a row: the checks of what is lent, and the words of the work area that a row starts with.
 #![tactic(auto)]
+
 mod begin;
 
 ghost use Rattle.std.specs.Prelude.{◌≡◌, length};

@@ -1,0 +1,56 @@
+-- 15 first, then 7 to 11, of which the searches give 9 and 10; where none is given the row's words are written, and else nothing.
+use Rattle.std.proofs.Common.{sym, ◌∙◌, length}
+use Rattle.start.specs.StartChecks.{some_word, broken-grammar, no-token, many-tokens, bad-token, bad-cut, small-room, enough-room, writable}
+use Rattle.start.proofs.StartLaw.{area_kept, area-started}
+use Rattle.start.proofs.start.Goals as goal
+
+pub returns-then-not-grammar_in_shape : goal.returns-then-not-grammar_in_shape
+returns-then-not-grammar_in_shape c =
+    let e = broken-grammar c.args.words.now c.args.matrix.now c.args.tokens.now c.args.cuts.now (length c.args.area.now) (sym c.grammar_in_shape.ensures ∙ c.if-not-grammar_in_shape.true) in
+    record { answers = e; leaves = area_kept c.args.words.now c.args.matrix.now c.args.tokens.now c.args.cuts.now c.args.area.now _ e }
+
+pub returns-then-n-eq0 : goal.returns-then-n-eq0
+returns-then-n-eq0 c =
+    let e = no-token c.args.words.now c.args.matrix.now c.args.tokens.now c.args.cuts.now (length c.args.area.now) (sym c.grammar_in_shape.ensures ∙ c.if-not-grammar_in_shape.false) c.if-n-eq0.true in
+    record { answers = e; leaves = area_kept c.args.words.now c.args.matrix.now c.args.tokens.now c.args.cuts.now c.args.area.now _ e }
+
+pub returns-then-n-gt16384 : goal.returns-then-n-gt16384
+returns-then-n-gt16384 c =
+    let e = many-tokens c.args.words.now c.args.matrix.now c.args.tokens.now c.args.cuts.now (length c.args.area.now) (sym c.grammar_in_shape.ensures ∙ c.if-not-grammar_in_shape.false) c.if-n-eq0.false c.if-n-gt16384.true in
+    record { answers = e; leaves = area_kept c.args.words.now c.args.matrix.now c.args.tokens.now c.args.cuts.now c.args.area.now _ e }
+
+pub bounds-words-0 : goal.bounds-words-0
+bounds-words-0 c = some_word c.args.words.now c.args.matrix.now (sym c.grammar_in_shape.ensures ∙ c.if-not-grammar_in_shape.false)
+
+pub returns-then-token-n : goal.returns-then-token-n
+returns-then-token-n c =
+    let e = bad-token c.args.words.now c.args.matrix.now c.args.tokens.now c.args.cuts.now (length c.args.area.now) (sym c.grammar_in_shape.ensures ∙ c.if-not-grammar_in_shape.false) c.if-n-eq0.false c.if-n-gt16384.false
+    c.first_bad_token-token.result c.first_bad_token-token.ensures c.if-token-n.true in
+    record { answers = e; leaves = area_kept c.args.words.now c.args.matrix.now c.args.tokens.now c.args.cuts.now c.args.area.now _ e }
+
+pub returns-then-cut-cuts : goal.returns-then-cut-cuts
+returns-then-cut-cuts c =
+    let e = bad-cut c.args.words.now c.args.matrix.now c.args.tokens.now c.args.cuts.now (length c.args.area.now) (sym c.grammar_in_shape.ensures ∙ c.if-not-grammar_in_shape.false) c.if-n-eq0.false c.if-n-gt16384.false
+    c.first_bad_token-token.result c.first_bad_token-token.ensures c.if-token-n.false
+    c.first_bad_cut-cut.result c.first_bad_cut-cut.ensures.0 c.if-cut-cuts.true in
+    record { answers = e; leaves = area_kept c.args.words.now c.args.matrix.now c.args.tokens.now c.args.cuts.now c.args.area.now _ e }
+
+pub returns-then-area-needed : goal.returns-then-area-needed
+returns-then-area-needed c =
+    let e = small-room c.args.words.now c.args.matrix.now c.args.tokens.now c.args.cuts.now (length c.args.area.now) (sym c.grammar_in_shape.ensures ∙ c.if-not-grammar_in_shape.false) c.if-n-eq0.false c.if-n-gt16384.false
+    c.first_bad_token-token.result c.first_bad_token-token.ensures c.if-token-n.false
+    c.first_bad_cut-cut.result c.first_bad_cut-cut.ensures.0 c.if-cut-cuts.false c.if-area-needed.true in
+    record { answers = e; leaves = area_kept c.args.words.now c.args.matrix.now c.args.tokens.now c.args.cuts.now c.args.area.now _ e }
+
+pub write-requires : goal.write-requires
+write-requires c =
+    writable c.args.words.now c.args.matrix.now c.args.tokens.now c.args.cuts.now (length c.args.area.now) (sym (enough-room c.args.words.now c.args.matrix.now c.args.tokens.now c.args.cuts.now (length c.args.area.now) (sym c.grammar_in_shape.ensures ∙ c.if-not-grammar_in_shape.false) c.if-n-eq0.false c.if-n-gt16384.false
+    c.first_bad_token-token.result c.first_bad_token-token.ensures c.if-token-n.false
+    c.first_bad_cut-cut.result c.first_bad_cut-cut.ensures.0 c.if-cut-cuts.false c.if-area-needed.false))
+
+pub returns : goal.returns
+returns c =
+    let e = enough-room c.args.words.now c.args.matrix.now c.args.tokens.now c.args.cuts.now (length c.args.area.now) (sym c.grammar_in_shape.ensures ∙ c.if-not-grammar_in_shape.false) c.if-n-eq0.false c.if-n-gt16384.false
+    c.first_bad_token-token.result c.first_bad_token-token.ensures c.if-token-n.false
+    c.first_bad_cut-cut.result c.first_bad_cut-cut.ensures.0 c.if-cut-cuts.false c.if-area-needed.false in
+    record { answers = e; leaves = c.write.ensures ∙ area-started c.args.words.now c.args.matrix.now c.args.tokens.now c.args.cuts.now c.args.area.now e }
