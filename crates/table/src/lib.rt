@@ -1,5 +1,6 @@
 // The table of a grammar, worked out from its words: its matrix and its sets. Document 01, "Sets and matrix", "Refusal numbers".
 #![tactic(auto)]
+
 mod relations;
 mod sets;
 
