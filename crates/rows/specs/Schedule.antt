@@ -6,12 +6,8 @@
 -- Main definitions: rest_area, each_to_rest, join_rightwards, row_area, row_answer, row_entries.
 -- Main statements: each_more, joins-more (one turn of each loop); row-not-loaded, row-not-started,
 -- row-reported (the three ways in which a row ends); row_fits (a report's entries are in the run that was lent for them).
-use Rattle.std.specs.Prelude.{◌≡◌, refl, Bool, true, false, ltb, length}
-use Rattle.std.proofs.Common.{sym, ◌∙◌}
-use Rattle.std.proofs.Math.Path.{ap}
-use mathlib.Core.List.{List}
-use Prim.Native.Nat.{ℕ, zero, suc, ◌+◌, ◌-◌, ◌*◌, ◌≤◌, ◌<◌}
-use native.Mathlib.Omega.{arith}
+use Rattle.std.specs.Prelude.{◌≡◌, refl, Bool, true, false, List, ℕ, zero, suc, ◌+◌, ◌-◌, ◌*◌, ◌≤◌, ◌<◌, ltb, length}
+use Rattle.std.proofs.Common.{sym, ap, ◌∙◌, arith}
 use Rattle.laws.specs.Tests.{ltb-false}
 use Rattle.refusals.specs.declared.Answer.{Answer}
 use Rattle.refusals.specs.declared.Answer.TheVariants.{Done, Refused as AnswerRefused}
