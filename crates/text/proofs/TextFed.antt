@@ -113,7 +113,7 @@ pieces-one [] h = refl
 pieces-one (piece ∷ pieces) h = pieces-one pieces (fed_all h piece) ∙ sym (fed-append h piece (flat pieces))
 
 -- after an answer other than that more is wanted nothing changes
-still : (h : Held) → (answer_of h.state ≡ More → ⊥) → (more : List ℕ) → fed_all h more ≡ h
+pub still : (h : Held) → (answer_of h.state ≡ More → ⊥) → (more : List ℕ) → fed_all h more ≡ h
 still h = go h.state.phase refl
   where
     go : (p : Phase) → h.state.phase ≡ p → (answer_in p h.state ≡ More → ⊥) → (more : List ℕ) → fed_all h more ≡ h
@@ -123,7 +123,7 @@ still h = go h.state.phase refl
     go Bad e n more = bad-stays more h e
     go Done e n more = done-stays more h e
 
-finish-said : (s : State) → (answer_of s ≡ More → ⊥) → finish_of s ≡ answer_of s
+pub finish-said : (s : State) → (answer_of s ≡ More → ⊥) → finish_of s ≡ answer_of s
 finish-said s = go (answer_of s)
   where
     go : (a : TextAnswer) → (a ≡ More → ⊥) → finish_in a s ≡ a
