@@ -4,7 +4,7 @@
 -- Rests on laws' Ascii, Decimals and Parts.
 --
 -- Main definitions: spaced, answer_line, parse_line, entry_line, refused_line, text_line; written, end_after.
--- Main statements: end-within (the place after a line is within the run); written-fits, written-not, end_fits, end-not.
+-- Main statements: end-within (the place after a line is within the run); written-fits, written-not, end-fits, end-not.
 use Rattle.std.specs.Prelude.{◌≡◌, refl, Bool, true, false, List, [], ◌∷◌, ◌++◌, ℕ, suc, ◌+◌, ◌/◌, ◌%◌, ◌≤◌, ◌<◌, leb, length, get_or, take, drop, set}
 use Rattle.std.proofs.Common.{sym, ap, ◌∙◌, append_assoc, add-one, arith, length-append, drop_of_length-le, drop-cons}
 use Rattle.std.proofs.lemmas.List.Edits.{sets, sets-eq}
@@ -57,8 +57,8 @@ unfoldable pub end_after : List ℕ → ℕ → List ℕ → ℕ
 end_after out at bytes = pick (fits out at bytes) (at + length bytes) at
 
 -- a number's digits before the last, and the last
-pub put_last : (l : List ℕ) (i v : ℕ) → 10 ≤ v → set (sets l i (decimal (v / 10))) (i + length (decimal (v / 10))) (digit_byte (v % 10)) ≡ sets l i (decimal v)
-put_last l i v h = sym (ap (λ (d : List ℕ). sets l i d) (decimal-large v h) ∙ sets-append l i (decimal (v / 10)) (digit_byte (v % 10) ∷ []))
+pub put-last : (l : List ℕ) (i v : ℕ) → 10 ≤ v → set (sets l i (decimal (v / 10))) (i + length (decimal (v / 10))) (digit_byte (v % 10)) ≡ sets l i (decimal v)
+put-last l i v h = sym (ap (λ (d : List ℕ). sets l i d) (decimal-large v h) ∙ sets-append l i (decimal (v / 10)) (digit_byte (v % 10) ∷ []))
 
 -- the byte at i of those that are being put, and the ones after it
 pub put-more : (l : List ℕ) (at i : ℕ) (bytes : List ℕ) → i < length bytes
@@ -115,9 +115,9 @@ pub written-not : (out : List ℕ) (at : ℕ) (bytes : List ℕ) → length out 
 unfolding written
 written-not out at bytes h = rw (lt-leb (at + length bytes) (length out) h)
 
-pub end_fits : (out : List ℕ) (at : ℕ) (bytes : List ℕ) → at + length bytes ≤ length out → at + length bytes ≡ end_after out at bytes
+pub end-fits : (out : List ℕ) (at : ℕ) (bytes : List ℕ) → at + length bytes ≤ length out → at + length bytes ≡ end_after out at bytes
 unfolding end_after
-end_fits out at bytes h = rw (le-leb (at + length bytes) (length out) h)
+end-fits out at bytes h = rw (le-leb (at + length bytes) (length out) h)
 
 pub end-not : (out : List ℕ) (at : ℕ) (bytes : List ℕ) → length out < at + length bytes → at ≡ end_after out at bytes
 unfolding end_after

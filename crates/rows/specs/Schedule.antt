@@ -4,14 +4,10 @@
 -- Rests on the calls' definitions: language's Loads, start's Start, moving's Calls, report's ReportCall.
 --
 -- Main definitions: rest_area, each_to_rest, join_rightwards, row_area, row_answer, row_entries.
--- Main statements: each_more, joins-more (one turn of each loop); row-not-loaded, row-not-started,
--- row-reported (the three ways in which a row ends); row_fits (a report's entries are in the run that was lent for them).
-use Rattle.std.specs.Prelude.{◌≡◌, refl, Bool, true, false, ltb, length}
-use Rattle.std.proofs.Common.{sym, ◌∙◌}
-use Rattle.std.proofs.Math.Path.{ap}
-use mathlib.Core.List.{List}
-use Prim.Native.Nat.{ℕ, zero, suc, ◌+◌, ◌-◌, ◌*◌, ◌≤◌, ◌<◌}
-use native.Mathlib.Omega.{arith}
+-- Main statements: each-more, joins-more (one turn of each loop); row-not-loaded, row-not-started,
+-- row-reported (the three ways in which a row ends); row-fits (a report's entries are in the run that was lent for them).
+use Rattle.std.specs.Prelude.{◌≡◌, refl, Bool, true, false, List, ℕ, zero, suc, ◌+◌, ◌-◌, ◌*◌, ◌≤◌, ◌<◌, ltb, length}
+use Rattle.std.proofs.Common.{sym, ap, ◌∙◌, arith}
 use Rattle.laws.specs.Tests.{ltb-false}
 use Rattle.refusals.specs.declared.Answer.{Answer}
 use Rattle.refusals.specs.declared.Answer.TheVariants.{Done, Refused as AnswerRefused}
@@ -49,17 +45,17 @@ module _ (words matrix : List ℕ) where
   moved_area chunks area = join_rightwards (chunks - 1) (each_to_rest 0 chunks area)
 
   -- one turn of each loop, its first and its last
-  pub each_all : (area : List ℕ) (chunks : ℕ) → each_to_rest 0 chunks area ≡ each_to_rest 0 (chunks - 0) area
-  each_all area chunks = let e : chunks ≡ chunks - 0 = omega arith in ap (λ (count : ℕ). each_to_rest 0 count area) e
+  pub each-all : (area : List ℕ) (chunks : ℕ) → each_to_rest 0 chunks area ≡ each_to_rest 0 (chunks - 0) area
+  each-all area chunks = let e : chunks ≡ chunks - 0 = omega arith in ap (λ (count : ℕ). each_to_rest 0 count area) e
 
-  pub each_more : (area : List ℕ) (chunk chunks : ℕ) → chunk < chunks
+  pub each-more : (area : List ℕ) (chunk chunks : ℕ) → chunk < chunks
       → each_to_rest chunk (chunks - chunk) area ≡ each_to_rest (chunk + 1) (chunks - (chunk + 1)) (rest_area area chunk)
   unfolding each_to_rest
-  each_more area chunk chunks h = let e : chunks - chunk ≡ suc (chunks - (chunk + 1)) = omega arith in rw e
+  each-more area chunk chunks h = let e : chunks - chunk ≡ suc (chunks - (chunk + 1)) = omega arith in rw e
 
-  pub each_none : (area : List ℕ) (chunk chunks : ℕ) → chunks ≤ chunk → each_to_rest chunk (chunks - chunk) area ≡ area
+  pub each-none : (area : List ℕ) (chunk chunks : ℕ) → chunks ≤ chunk → each_to_rest chunk (chunks - chunk) area ≡ area
   unfolding each_to_rest
-  each_none area chunk chunks h = let e : chunks - chunk ≡ 0 = omega arith in rw e
+  each-none area chunk chunks h = let e : chunks - chunk ≡ 0 = omega arith in rw e
 
   pub joins-more : (area : List ℕ) (joined chunks : ℕ) → joined < chunks
       → join_rightwards (chunks - joined) area ≡ join_rightwards (chunks - (joined + 1)) (rest_area (join_area words matrix area 0) 0)
@@ -159,9 +155,9 @@ abbrev pub Fits : ReportAnswer → ℕ → Type 0
 Fits (Report count moves) room = 3 * count ≤ room
 Fits (Refused refusal) room = Unit {0}
 
-outcome_fits : (o : Outcome) (room : ℕ) → Fits (outcome_answer o room) room
-outcome_fits (refused_row refusal) room = tt
-outcome_fits (reported entries moves) room = go (ltb room (3 * length entries)) refl
+outcome-fits : (o : Outcome) (room : ℕ) → Fits (outcome_answer o room) room
+outcome-fits (refused_row refusal) room = tt
+outcome-fits (reported entries moves) room = go (ltb room (3 * length entries)) refl
   where
     go : (b : Bool) → ltb room (3 * length entries) ≡ b
         → Fits (elim b [ true ↦ Refused (NoRoom (3 * length entries)) | false ↦ Report (length entries) moves ]) room
@@ -170,15 +166,15 @@ outcome_fits (reported entries moves) room = go (ltb room (3 * length entries)) 
 
 report-fits : (words matrix area : List ℕ) (room : ℕ) → Fits (report_answer words matrix area room) room
 unfolding report_answer
-report-fits words matrix area room = outcome_fits (report_outcome words matrix area) room
+report-fits words matrix area room = outcome-fits (report_outcome words matrix area) room
 
 else-fits : (a : Answer) (next : ReportAnswer) (room : ℕ) → Fits next room → Fits (or_else a next) room
 else-fits Done next room f = f
 else-fits (AnswerRefused refusal) next room f = tt
 
-pub row_fits : (words tokens cuts matrix area : List ℕ) (room : ℕ) → Fits (row_answer words tokens cuts matrix area room) room
+pub row-fits : (words tokens cuts matrix area : List ℕ) (room : ℕ) → Fits (row_answer words tokens cuts matrix area room) room
 unfolding row_answer
-row_fits words tokens cuts matrix area room =
+row-fits words tokens cuts matrix area room =
     else-fits (load_answer words (length matrix)) _ room
     (else-fits (row_start words tokens cuts matrix area) _ room
     (report-fits words (row_matrix words tokens cuts matrix area) (row_area words tokens cuts matrix area) room))
@@ -186,7 +182,7 @@ row_fits words tokens cuts matrix area room =
 -- an answer of the row, where the run keeps its length
 pub fits-from : (words tokens cuts matrix area : List ℕ) (room more : ℕ) (answer : ReportAnswer) → answer ≡ row_answer words tokens cuts matrix area room
     → more ≡ room → Fits answer more
-fits-from words tokens cuts matrix area room more answer e r = rw (e, r) (row_fits words tokens cuts matrix area room)
+fits-from words tokens cuts matrix area room more answer e r = rw (e, r) (row-fits words tokens cuts matrix area room)
 
 -- the place after a line is within the bytes
 pub line-within : (out : List ℕ) (at end : ℕ) (bytes : List ℕ) → end ≡ end_after out at bytes → at ≤ length out → end ≤ length out

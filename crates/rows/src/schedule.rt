@@ -9,6 +9,7 @@ use refusals::{Answer, ReportAnswer};
 const BUDGET: u32 = 4294967295;
 
 // Moves a chunk until it is at rest; where it is at rest already, or gone, nothing changes.
+#[tactic(auto, unfolding(crate::specs::Schedule::rest_area))]
 fn to_rest(words: &[u16], matrix: &[u8], area: &mut [u16], chunk: usize)
     ensures { area.new ≡ rest_area words.now matrix.now area.old chunk }
 {

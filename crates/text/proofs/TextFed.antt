@@ -41,13 +41,13 @@ cut (byte ∷ text) = go (eqb byte line_feed) refl (cut text)
     go false e (uncut {text} n) = uncut {text = byte ∷ text} (e, n)
     go false e (cut_at line rest n) = cut_at (byte ∷ line) rest (e, n)
 
-lines_none : (text : List ℕ) → NoFeed text → lines_of text ≡ []
-lines_none [] n = refl
-lines_none (byte ∷ text) n = rw (n.0, lines_none text n.1)
+lines-none : (text : List ℕ) → NoFeed text → lines_of text ≡ []
+lines-none [] n = refl
+lines-none (byte ∷ text) n = rw (n.0, lines-none text n.1)
 
-lines_cut : (line rest : List ℕ) → NoFeed line → lines_of (line ++ (line_feed ∷ rest)) ≡ line ∷ lines_of rest
-lines_cut [] rest n = refl
-lines_cut (byte ∷ line) rest n = rw (n.0, lines_cut line rest n.1)
+lines-cut : (line rest : List ℕ) → NoFeed line → lines_of (line ++ (line_feed ∷ rest)) ≡ line ∷ lines_of rest
+lines-cut [] rest n = refl
+lines-cut (byte ∷ line) rest n = rw (n.0, lines-cut line rest n.1)
 
 -- what a line does to a state in which it begins
 data Level (h : Held) (text : List ℕ) : Type 0 where
@@ -58,37 +58,37 @@ data Level (h : Held) (text : List ℕ) : Type 0 where
       → fed_all (held_in h Fresh) text ≡ fed_all (line_done (kept_all numbers h)) rest → Level h text
 
 level : (h : Held) {text : List ℕ} → Cut text → Level h text
-level h (uncut {text} n) = missing (lines_none text n) (unfinished-stays text (held_in h Fresh) n tt)
+level h (uncut {text} n) = missing (lines-none text n) (unfinished-stays text (held_in h Fresh) n tt)
 level h (cut_at line rest n) = go (at_most (room h.state) (numbers_after line Fresh)) refl (line-fed rest line n Fresh h tt)
   where
     text : List ℕ
     text = line ++ (line_feed ∷ rest)
 
     go : (numbers : Option (List ℕ)) → at_most (room h.state) (numbers_after line Fresh) ≡ numbers → Ended h numbers (fed_all (held_in h Fresh) text) rest → Level h text
-    go none e b = spoilt line rest (lines_cut line rest n) (line-is (room h.state) line ∙ e) b
-    go (some numbers) e f = passed line rest numbers (lines_cut line rest n) (line-is (room h.state) line ∙ e) f
+    go none e b = spoilt line rest (lines-cut line rest n) (line-is (room h.state) line ∙ e) b
+    go (some numbers) e f = passed line rest numbers (lines-cut line rest n) (line-is (room h.state) line ∙ e) f
 
 -- what numbers that are kept one after the other leave, in each line
 abbrev at : Line → ℕ → ℕ → ℕ → State
 at l w t c = record { line = l; phase = Fresh; words = w; tokens = t; cuts = c }
 
-one_further : (n k : ℕ) → n + 1 + k ≡ n + suc k
-one_further n k = omega arith
+one-further : (n k : ℕ) → n + 1 + k ≡ n + suc k
+one-further n k = omega arith
 
 words-kept : (numbers : List ℕ) (w t c : ℕ) (W T C : List ℕ)
     → kept_all numbers (held (at Words w t c) W T C) ≡ held (at Words (w + length numbers) t c) (sets W w numbers) T C
 words-kept [] w t c W T C = rw (add-zero w)
-words-kept (v ∷ numbers) w t c W T C = words-kept numbers (w + 1) t c (set W w v) T C ∙ rw (one_further w (length numbers), add-one w)
+words-kept (v ∷ numbers) w t c W T C = words-kept numbers (w + 1) t c (set W w v) T C ∙ rw (one-further w (length numbers), add-one w)
 
 tokens-kept : (numbers : List ℕ) (w t c : ℕ) (W T C : List ℕ)
     → kept_all numbers (held (at Tokens w t c) W T C) ≡ held (at Tokens w (t + length numbers) c) W (sets T t numbers) C
 tokens-kept [] w t c W T C = rw (add-zero t)
-tokens-kept (v ∷ numbers) w t c W T C = tokens-kept numbers w (t + 1) c W (set T t v) C ∙ rw (one_further t (length numbers), add-one t)
+tokens-kept (v ∷ numbers) w t c W T C = tokens-kept numbers w (t + 1) c W (set T t v) C ∙ rw (one-further t (length numbers), add-one t)
 
 cuts-kept : (numbers : List ℕ) (w t c : ℕ) (W T C : List ℕ)
     → kept_all numbers (held (at Cuts w t c) W T C) ≡ held (at Cuts w t (c + length numbers)) W T (sets C c numbers)
 cuts-kept [] w t c W T C = rw (add-zero c)
-cuts-kept (v ∷ numbers) w t c W T C = cuts-kept numbers w t (c + 1) W T (set C c v) ∙ rw (one_further c (length numbers), add-one c)
+cuts-kept (v ∷ numbers) w t c W T C = cuts-kept numbers w t (c + 1) W T (set C c v) ∙ rw (one-further c (length numbers), add-one c)
 
 -- what a state says that is bad, or in the midst of a line
 answer-broken : (l : Line) (h : Held) → Broken l h → answer_of h.state ≡ BadLine (line_number l)
@@ -113,7 +113,7 @@ pieces-one [] h = refl
 pieces-one (piece ∷ pieces) h = pieces-one pieces (fed_all h piece) ∙ sym (fed-append h piece (flat pieces))
 
 -- after an answer other than that more is wanted nothing changes
-still : (h : Held) → (answer_of h.state ≡ More → ⊥) → (more : List ℕ) → fed_all h more ≡ h
+pub still : (h : Held) → (answer_of h.state ≡ More → ⊥) → (more : List ℕ) → fed_all h more ≡ h
 still h = go h.state.phase refl
   where
     go : (p : Phase) → h.state.phase ≡ p → (answer_in p h.state ≡ More → ⊥) → (more : List ℕ) → fed_all h more ≡ h
@@ -123,7 +123,7 @@ still h = go h.state.phase refl
     go Bad e n more = bad-stays more h e
     go Done e n more = done-stays more h e
 
-finish-said : (s : State) → (answer_of s ≡ More → ⊥) → finish_of s ≡ answer_of s
+pub finish-said : (s : State) → (answer_of s ≡ More → ⊥) → finish_of s ≡ answer_of s
 finish-said s = go (answer_of s)
   where
     go : (a : TextAnswer) → (a ≡ More → ⊥) → finish_in a s ≡ a
@@ -157,9 +157,9 @@ module _ (W T C : List ℕ) where
   unfinished-broken : (l : Line) (h : Held) → Broken l h → Unfinished l h
   unfinished-broken l h b = (b.0, rw b.1 tt)
 
-  read_is : (text : List ℕ) (ls : List (List ℕ)) → lines_of text ≡ ls → read_text text ≡ read_lines ls
+  read-is : (text : List ℕ) (ls : List (List ℕ)) → lines_of text ≡ ls → read_text text ≡ read_lines ls
   unfolding read_text
-  read_is text ls e = ap read_lines e
+  read-is text ls e = ap read_lines e
 
   module _ (text : List ℕ) where
     -- the second line begins, and the third
@@ -176,12 +176,12 @@ module _ (W T C : List ℕ) where
 
       third-read : Level (third words tokens) rest → TextFed W T C text
       third-read (missing m u) =
-          bad-text text Cuts (read_is text ls e ∙ bad-third ls words g₁ tokens g₂ (rw m)) (rw f u) (λ three. absurd (omega (arith, ap length e, ap length m)))
+          bad-text text Cuts (read-is text ls e ∙ bad-third ls words g₁ tokens g₂ (rw m)) (rw f u) (λ three. absurd (omega (arith, ap length e, ap length m)))
       third-read (spoilt line₃ rest₃ e₃ n b) =
-          bad-text text Cuts (read_is text ls e ∙ bad-third ls words g₁ tokens g₂ (rw e₃ n))
+          bad-text text Cuts (read-is text ls e ∙ bad-third ls words g₁ tokens g₂ (rw e₃ n))
           (rw f (unfinished-broken Cuts (fed_all (third words tokens) rest) b)) (λ three. rw f (answer-broken Cuts (fed_all (third words tokens) rest) b))
       third-read (passed line₃ rest₃ cuts e₃ g₃ f₃) =
-          good-text text words tokens cuts (read_is text ls e ∙ good-third ls words g₁ tokens g₂ cuts (rw e₃ g₃))
+          good-text text words tokens cuts (read-is text ls e ∙ good-third ls words g₁ tokens g₂ cuts (rw e₃ g₃))
           (f ∙ f₃ ∙ ap (λ (k : Held). fed_all (line_done k) rest₃) (cuts-kept cuts (0 + length words) (0 + length tokens) 0 (sets W 0 words) (sets T 0 tokens) C)
           ∙ done-stays rest₃ _ refl ∙ rw (zero-add (length words), zero-add (length tokens), zero-add (length cuts)))
 
@@ -189,27 +189,27 @@ module _ (W T C : List ℕ) where
         (f : after W T C text ≡ fed_all (second words) rest) where
       second-read : Level (second words) rest → TextFed W T C text
       second-read (missing m u) =
-          bad-text text Tokens (read_is text (line₁ ∷ lines_of rest) e ∙ bad-second (line₁ ∷ lines_of rest) words g₁ (rw m)) (rw f u)
+          bad-text text Tokens (read-is text (line₁ ∷ lines_of rest) e ∙ bad-second (line₁ ∷ lines_of rest) words g₁ (rw m)) (rw f u)
           (λ three. absurd (omega (arith, ap length e, ap length m)))
       second-read (spoilt line₂ rest₂ e₂ n b) =
-          bad-text text Tokens (read_is text (line₁ ∷ lines_of rest) e ∙ bad-second (line₁ ∷ lines_of rest) words g₁ (rw e₂ n))
+          bad-text text Tokens (read-is text (line₁ ∷ lines_of rest) e ∙ bad-second (line₁ ∷ lines_of rest) words g₁ (rw e₂ n))
           (rw f (unfinished-broken Tokens (fed_all (second words) rest) b)) (λ three. rw f (answer-broken Tokens (fed_all (second words) rest) b))
       second-read (passed line₂ rest₂ tokens e₂ g₂ f₂) =
           third-read line₁ line₂ rest₂ words tokens (e ∙ ap (λ (ls : List (List ℕ)). line₁ ∷ ls) e₂) g₁ g₂
           (f ∙ f₂ ∙ ap (λ (k : Held). fed_all (line_done k) rest₂) (tokens-kept tokens (0 + length words) 0 0 (sets W 0 words) T C))
           (level (third words tokens) (cut rest₂))
 
-    first_read : Level (held start W T C) text → TextFed W T C text
-    first_read (missing m u) = bad-text text Words (read_is text [] m ∙ bad-first [] refl) u (λ three. absurd (omega (arith, ap length m)))
-    first_read (spoilt line₁ rest e n b) =
-        bad-text text Words (read_is text (line₁ ∷ lines_of rest) e ∙ bad-first (line₁ ∷ lines_of rest) n) (unfinished-broken Words (after W T C text) b)
+    first-read : Level (held start W T C) text → TextFed W T C text
+    first-read (missing m u) = bad-text text Words (read-is text [] m ∙ bad-first [] refl) u (λ three. absurd (omega (arith, ap length m)))
+    first-read (spoilt line₁ rest e n b) =
+        bad-text text Words (read-is text (line₁ ∷ lines_of rest) e ∙ bad-first (line₁ ∷ lines_of rest) n) (unfinished-broken Words (after W T C text) b)
         (λ three. answer-broken Words (after W T C text) b)
-    first_read (passed line₁ rest words e g f) =
+    first-read (passed line₁ rest words e g f) =
         second-read line₁ rest words e g (f ∙ ap (λ (k : Held). fed_all (line_done k) rest) (words-kept words 0 0 0 W T C)) (level (second words) (cut rest))
 
   -- a text that has been fed whole
   pub text-fed : (text : List ℕ) → TextFed W T C text
-  text-fed text = first_read text (level (held start W T C) (cut text))
+  text-fed text = first-read text (level (held start W T C) (cut text))
 
   -- buffers of the sizes that document 01 gives hold the numbers that have been read at their fronts, and the rest of them is as it was
   pub buffers-hold : most_words ≤ length W → most_tokens ≤ length T → most_cuts ≤ length C → (text words tokens cuts : List ℕ) → read_text text ≡ lines words tokens cuts

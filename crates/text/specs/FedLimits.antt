@@ -85,38 +85,38 @@ limits-fed (byte ∷ piece) h i =
 
 -- and the buffers' lengths
 pub record SameLengths (h k : Held) : Type 0 where
-  pub words_long : length k.words ≡ length h.words
+  pub words-long : length k.words ≡ length h.words
   pub tokens-long : length k.tokens ≡ length h.tokens
   pub cuts-long : length k.cuts ≡ length h.cuts
 
 same-all : (h : Held) (s : State) → SameLengths h (within h s)
-same-all h s = record { words_long = refl; tokens-long = refl; cuts-long = refl }
+same-all h s = record { words-long = refl; tokens-long = refl; cuts-long = refl }
 
-same_kept : (h : Held) (v : ℕ) (l : Line) → SameLengths h (kept_in l h v)
-same_kept h v Words = record { words_long = length-set h.words h.state.words v; tokens-long = refl; cuts-long = refl }
-same_kept h v Tokens = record { words_long = refl; tokens-long = length-set h.tokens h.state.tokens v; cuts-long = refl }
-same_kept h v Cuts = record { words_long = refl; tokens-long = refl; cuts-long = length-set h.cuts h.state.cuts v }
+same-kept : (h : Held) (v : ℕ) (l : Line) → SameLengths h (kept_in l h v)
+same-kept h v Words = record { words-long = length-set h.words h.state.words v; tokens-long = refl; cuts-long = refl }
+same-kept h v Tokens = record { words-long = refl; tokens-long = length-set h.tokens h.state.tokens v; cuts-long = refl }
+same-kept h v Cuts = record { words-long = refl; tokens-long = refl; cuts-long = length-set h.cuts h.state.cuts v }
 
-same_ended : (h : Held) (v byte : ℕ) → SameLengths h (ended h v byte)
-same_ended h v byte =
+same-ended : (h : Held) (v byte : ℕ) → SameLengths h (ended h v byte)
+same-ended h v byte =
     pick-with (SameLengths h) (full h.state) (λ f. same-all h (in_phase h.state Bad))
-    (λ f. let k = same_kept h v h.state.line in record { words_long = k.words_long; tokens-long = k.tokens-long; cuts-long = k.cuts-long })
+    (λ f. let k = same-kept h v h.state.line in record { words-long = k.words-long; tokens-long = k.tokens-long; cuts-long = k.cuts-long })
 
-same_in : (h : Held) (byte : ℕ) (p : Phase) → SameLengths h (fed_in p h byte)
-same_in h byte Fresh = same-all h (opened h.state byte)
-same_in h byte (Number v) = pick-with (SameLengths h) (is_digit byte) (λ d. same-all h (longer h.state v byte)) (λ d. same_ended h v byte)
-same_in h byte Space = same-all h (started h.state byte)
-same_in h byte Bad = same-all h h.state
-same_in h byte Done = same-all h h.state
+same-in : (h : Held) (byte : ℕ) (p : Phase) → SameLengths h (fed_in p h byte)
+same-in h byte Fresh = same-all h (opened h.state byte)
+same-in h byte (Number v) = pick-with (SameLengths h) (is_digit byte) (λ d. same-all h (longer h.state v byte)) (λ d. same-ended h v byte)
+same-in h byte Space = same-all h (started h.state byte)
+same-in h byte Bad = same-all h h.state
+same-in h byte Done = same-all h h.state
 
 pub lengths-fed : (piece : List ℕ) (h : Held) → SameLengths h (fed_all h piece)
 unfolding fed_all
 lengths-fed [] h = same-all h h.state
 lengths-fed (byte ∷ piece) h =
-    let one = subst (SameLengths h) (fed-in h byte h.state.phase refl) (same_in h byte h.state.phase) in
+    let one = subst (SameLengths h) (fed-in h byte h.state.phase refl) (same-in h byte h.state.phase) in
     let more = lengths-fed piece (fed h byte) in
     record {
-      words_long = more.words_long ∙ one.words_long;
+      words-long = more.words-long ∙ one.words-long;
       tokens-long = more.tokens-long ∙ one.tokens-long;
       cuts-long = more.cuts-long ∙ one.cuts-long;
     }

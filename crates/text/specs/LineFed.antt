@@ -65,8 +65,8 @@ ended-any h p value byte = go h.state.line
     go Tokens = refl
     go Cuts = refl
 
-line_kept : (h : Held) (v : ℕ) → (kept h v).state.line ≡ h.state.line
-line_kept h v = go h.state.line
+line-kept : (h : Held) (v : ℕ) → (kept h v).state.line ≡ h.state.line
+line-kept h v = go h.state.line
   where
     go : (l : Line) → (kept (at_line h l h.state.phase) v).state.line ≡ l
     go Words = refl
@@ -125,9 +125,9 @@ module _ (h : Held) (byte : ℕ) where
       sym (fed-ended (held_in h (Number value)) byte value (ended (held_in h (Number value)) value byte) refl d refl) ∙ ended-any h (Number value) value byte
 
 -- one more number among those that there is room for
-both_out : (v : ℕ) (others : Option (List ℕ)) → at_most 0 (both (some v) others) ≡ none
-both_out v none = refl
-both_out v (some numbers) = rw (lt-leb (suc (length numbers)) 0 (omega arith))
+both-out : (v : ℕ) (others : Option (List ℕ)) → at_most 0 (both (some v) others) ≡ none
+both-out v none = refl
+both-out v (some numbers) = rw (lt-leb (suc (length numbers)) 0 (omega arith))
 
 both-in : (v k : ℕ) (others : Option (List ℕ)) → at_most (suc k) (both (some v) others) ≡ both (some v) (at_most k others)
 both-in v k none = refl
@@ -139,7 +139,7 @@ both-in v k (some numbers) = rw (leb-suc-suc (length numbers) k) (go (leb (lengt
 
 ended-both : (h : Held) (v : ℕ) (others : Option (List ℕ)) (after : Held) (rest : List ℕ)
     → Ended (kept h v) others after rest → Ended h (both (some v) others) after rest
-ended-both h v none after rest t = (t.0 ∙ line_kept h v, t.1)
+ended-both h v none after rest t = (t.0 ∙ line-kept h v, t.1)
 ended-both h v (some numbers) after rest t = t
 
 module _ (rest : List ℕ) where
@@ -200,7 +200,7 @@ module _ (rest : List ℕ) where
     -- a space after a number
     at-space : (h : Held) (v : ℕ) → byte ≡ space → (k : ℕ) → room h.state ≡ k
         → Ended h (at_most k (both (some v) (numbers_after line Space))) (fed_all (held_in h (Number v)) (byte ∷ bytes)) rest
-    at-space h v e zero r = rw (both_out v (numbers_after line Space)) (spoilt h (Number v) (from-number h byte v (rw e) ∙ ended-out h v byte r))
+    at-space h v e zero r = rw (both-out v (numbers_after line Space)) (spoilt h (Number v) (from-number h byte v (rw e) ∙ ended-out h v byte r))
     at-space h v e (suc k) r =
         rw (both-in v k (numbers_after line Space))
         (step h (Number v) byte bytes (both (some v) (at_most k (numbers_after line Space))) (held_in (kept h v) Space)
@@ -209,10 +209,10 @@ module _ (rest : List ℕ) where
         (rw (room-kept h v k r) at (rest-right Space (kept h v) tt))))
 
     -- anything else after a number
-    at_other : (h : Held) (v : ℕ) → is_digit byte ≡ false → eqb byte space ≡ false → (k : ℕ) → room h.state ≡ k
+    at-other : (h : Held) (v : ℕ) → is_digit byte ≡ false → eqb byte space ≡ false → (k : ℕ) → room h.state ≡ k
         → Ended h none (fed_all (held_in h (Number v)) (byte ∷ bytes)) rest
-    at_other h v d s zero r = spoilt h (Number v) (from-number h byte v d ∙ ended-out h v byte r)
-    at_other h v d s (suc k) r =
+    at-other h v d s zero r = spoilt h (Number v) (from-number h byte v d ∙ ended-out h v byte r)
+    at-other h v d s (suc k) r =
         step h (Number v) byte bytes none (held_in (kept h v) Bad) (from-number h byte v d ∙ ended-in h v byte k r ∙ rw (s, no-feed))
         (ended-both h v none (fed_all (held_in (kept h v) Bad) bytes) rest (broken (kept h v) bytes))
 
@@ -220,18 +220,18 @@ module _ (rest : List ℕ) where
         → Ended h (at_most (room h.state) (numbers_after (byte ∷ line) (Number v))) (fed_all (held_in h (Number v)) (byte ∷ bytes)) rest
     in-number h v (digit d s) = rw d (at-digit h v d (leb (v * 10 + (byte - 48)) 65535) refl)
     in-number h v (gap e) = rw e (rw e at (at-space h v e (room h.state) refl))
-    in-number h v (other d s) = rw (d, s) (at_other h v d s (room h.state) refl)
+    in-number h v (other d s) = rw (d, s) (at-other h v d s (room h.state) refl)
 
-    one_more : FedRight (byte ∷ line)
-    one_more Fresh h o = at-start h Fresh (from-fresh h byte ∙ rw no-feed)
-    one_more (Number v) h o = in-number h v (kind byte)
-    one_more Space h o = at-start h Space (from-space h byte)
-    one_more Bad h o = absurd o
-    one_more Done h o = absurd o
+    one-more : FedRight (byte ∷ line)
+    one-more Fresh h o = at-start h Fresh (from-fresh h byte ∙ rw no-feed)
+    one-more (Number v) h o = in-number h v (kind byte)
+    one-more Space h o = at-start h Space (from-space h byte)
+    one-more Bad h o = absurd o
+    one-more Done h o = absurd o
 
   pub line-fed : (line : List ℕ) → NoFeed line → FedRight line
   line-fed [] n = at-end
-  line-fed (byte ∷ line) n = one_more byte line n.0 (line-fed line n.1)
+  line-fed (byte ∷ line) n = one-more byte line n.0 (line-fed line n.1)
 
 -- this line is being read, or is bad
 abbrev pub NotDone : Phase → Type 0
@@ -262,7 +262,7 @@ module _ (h : Held) (byte : ℕ) (no-feed : eqb byte line_feed ≡ false) where
   ended-stays : (v : ℕ) → Stays (ended h v byte)
   ended-stays v =
       pick-keeps Stays (full h.state) (refl, tt)
-      (rw no-feed (pick-keeps (λ (s : State). Stays (within (kept h v) s)) (eqb byte space) (line_kept h v, tt) (line_kept h v, tt)))
+      (rw no-feed (pick-keeps (λ (s : State). Stays (within (kept h v) s)) (eqb byte space) (line-kept h v, tt) (line-kept h v, tt)))
 
   in-phase-stays : (p : Phase) → h.state.phase ≡ p → NotDone p → Stays (fed_in p h byte)
   in-phase-stays Fresh e o = rw no-feed start-stays

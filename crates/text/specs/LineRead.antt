@@ -46,9 +46,9 @@ numbers_after (byte ∷ line) Bad = none
 numbers_after (byte ∷ line) Done = none
 
 -- digits do not make a value less
-value_grows : (value : ℕ) (digits : List ℕ) → value ≤ value_from value digits
-value_grows value [] = omega arith
-value_grows value (d ∷ digits) = omega (arith, value_grows (value * 10 + (d - 48)) digits)
+value-grows : (value : ℕ) (digits : List ℕ) → value ≤ value_from value digits
+value-grows value [] = omega arith
+value-grows value (d ∷ digits) = omega (arith, value-grows (value * 10 + (d - 48)) digits)
 
 -- one more digit
 number-longer : (value byte : ℕ) (bytes : List ℕ) → is_digit byte ≡ true
@@ -61,7 +61,7 @@ number-longer value byte bytes d = go (leb (value * 10 + (byte - 48)) 65535) ref
     go : (b : Bool) → leb next 65535 ≡ b → number_from value (byte ∷ bytes) ≡ pick b (number_from next bytes) none
     go true e = rw d
     go false e =
-        let more : 65535 < value_from next bytes = omega (arith, value_grows next bytes, leb-false next 65535 e) in
+        let more : 65535 < value_from next bytes = omega (arith, value-grows next bytes, leb-false next 65535 e) in
         rw (d, lt-leb (value_from next bytes) 65535 more, and-false (all_digits bytes))
 
 -- the parts of a line of which the first goes on from a value
@@ -73,14 +73,14 @@ both-none : (b : Bool) (o : Option ℕ) (others : Option (List ℕ)) → both (p
 both-none true o others = refl
 both-none false o others = refl
 
-pick_same : {A : Type 0} (b : Bool) (a : A) → pick b a a ≡ a
-pick_same true a = refl
-pick_same false a = refl
+pick-same : {A : Type 0} (b : Bool) (a : A) → pick b a a ≡ a
+pick-same true a = refl
+pick-same false a = refl
 
 -- a digit in front of the first part
 on-digit : (value byte : ℕ) (parts : List (List ℕ)) → is_digit byte ≡ true
     → numbers_on value (divided false byte parts) ≡ pick (leb (value * 10 + (byte - 48)) 65535) (numbers_on (value * 10 + (byte - 48)) parts) none
-on-digit value byte [] d = sym (pick_same (leb (value * 10 + (byte - 48)) 65535) none)
+on-digit value byte [] d = sym (pick-same (leb (value * 10 + (byte - 48)) 65535) none)
 on-digit value byte (part ∷ parts) d =
     rw (number-longer value byte part d, both-none (leb (value * 10 + (byte - 48)) 65535) (number_from (value * 10 + (byte - 48)) part) (numbers_of parts))
 
@@ -105,8 +105,8 @@ parts-some (byte ∷ line) = go (eqb byte space) (parts-some line)
 of-digit : (byte : ℕ) {parts : List (List ℕ)} → Some parts → is_digit byte ≡ true → numbers_of (divided false byte parts) ≡ numbers_on (byte - 48) parts
 of-digit byte (some-part part parts) d = rw (d, zero-add)
 
-of_other : (byte : ℕ) {parts : List (List ℕ)} → Some parts → is_digit byte ≡ false → numbers_of (divided false byte parts) ≡ none
-of_other byte (some-part part parts) d = rw d
+of-other : (byte : ℕ) {parts : List (List ℕ)} → Some parts → is_digit byte ≡ false → numbers_of (divided false byte parts) ≡ none
+of-other byte (some-part part parts) d = rw d
 
 -- what the bytes make one by one is what the parts stand for
 record Agrees (line : List ℕ) : Type 0 where
@@ -138,7 +138,7 @@ agrees (byte ∷ line) = go (kind byte) (agrees line)
         }
     go (other d s) rest =
         record {
-          space-next = rw (d, s) (sym (of_other byte (parts-some line) d));
+          space-next = rw (d, s) (sym (of-other byte (parts-some line) d));
           number-next = λ value h. rw (d, s) (sym (on-other value byte (parts_of line) d));
         }
 

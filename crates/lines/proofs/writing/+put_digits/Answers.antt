@@ -2,7 +2,7 @@
 use Rattle.std.proofs.Common.{List, ℕ, ◌/◌, ◌%◌, refl, ap, ◌∙◌, set, arith}
 use Rattle.std.proofs.lemmas.List.Edits.{sets}
 use Rattle.laws.specs.Decimals.{digit_byte, decimal, decimal-small, length-small, length-large}
-use Rattle.lines.specs.AnswerLines.{put_last}
+use Rattle.lines.specs.AnswerLines.{put-last}
 use Rattle.lines.proofs.writing.+put_digits.Goals as goal
 
 pub bounds-out-at : goal.bounds-out-at
@@ -34,4 +34,4 @@ returns-clause-out_after t c =
     let p = c.put_digits-last in
     ap (λ (l : List ℕ). set l p.result (digit_byte (a.value % 10))) p.ensures.out_after
     ∙ ap (λ (k : ℕ). set (sets a.out.now a.at (decimal (a.value / 10))) k (digit_byte (a.value % 10))) p.ensures.value
-    ∙ put_last a.out.now a.at a.value c.if-value-lt10.false
+    ∙ put-last a.out.now a.at a.value c.if-value-lt10.false

@@ -2,7 +2,7 @@
 use Rattle.std.proofs.Common.{List, ℕ, ◌+◌, ◌≡◌, length, sym, ap, ◌∙◌, arith, length-append}
 use Rattle.std.proofs.lemmas.List.Edits.{sets}
 use Rattle.laws.specs.Parts.{sets-append}
-use Rattle.lines.specs.AnswerLines.{spaced, answer_line, written-fits, written-not, end_fits, end-not}
+use Rattle.lines.specs.AnswerLines.{spaced, answer_line, written-fits, written-not, end-fits, end-not}
 use Rattle.lines.proofs.writing.put_line.Goals as goal
 
 pub returns-then-out-at-clause-value : goal.returns-then-out-at-clause-value
@@ -32,7 +32,7 @@ returns-clause-value c =
     let a = c.args in
     let long = length-append a.word.now (spaced a.numbers.now) in
     let r : c.put_numbers.result ≡ a.at + length (answer_line a.word.now a.numbers.now) = omega (arith, long, c.put_bytes-end.ensures.value, c.put_numbers.ensures.value) in
-    r ∙ end_fits a.out.now a.at (answer_line a.word.now a.numbers.now) (omega (arith, long, c.numbers_length.ensures.is))
+    r ∙ end-fits a.out.now a.at (answer_line a.word.now a.numbers.now) (omega (arith, long, c.numbers_length.ensures.is))
 
 pub returns-clause-out_after : goal.returns-clause-out_after
 returns-clause-out_after c =
