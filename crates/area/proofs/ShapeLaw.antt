@@ -1,21 +1,13 @@
 -- What the proofs of the shape check's functions share: each test one step on, and the bounds that its counts keep.
 -- Rests on specs' Shape and ShapeCode.
 --
--- Main statements: sized_of; shape-left, shape-kept; scan-more, side-few; blank-next, blank-done; countable, line-within.
-use Prim.Native.Nat.{ℕ, zero, suc, ◌+◌, ◌*◌, ◌-◌, ◌<◌, ◌≤◌, ◌^◌}
-use mir.Syntax.{w16, w64}
-use mir.Val.{Fits}
-use mathlib.Core.Path.{◌≡◌, refl, sym, ap, ◌∙◌}
-use mathlib.Core.Bool.{Bool, true, false, ◌&&◌, false≢true, true≢false}
-use mathlib.Core.List.{List, [], ◌∷◌}
-use native.Mathlib.Omega.{arith}
-use native.Mathlib.Nat.{mul-le-mul_right, mul-le-mul_left}
-use native.Mathlib.Decide.{dec_le}
-use lib.ListN.{length, get_or, drop}
-use lib.Dec.{leb, ltb, eqb}
-use lib.Seq.{drop-drop, get_or-drop}
-use borrow.Author.Tests.{leb-true, eqb-true, ne_eqb, lt-leb, le-leb}
-use Rattle.laws.specs.Picks.{pick, all_of, each_of, pick-with}
+-- Main statements: sized_of; shape-left, shape-kept; scan-more, side-few; blank-next; countable, line-within.
+use Rattle.std.proofs.Common.{ℕ, zero, suc, ◌+◌, ◌*◌, ◌-◌, ◌<◌, ◌≤◌, ◌≡◌, refl, sym, ◌∙◌, Bool, true, false, ◌&&◌}
+use Rattle.std.proofs.Common.{List, [], ◌∷◌, length, get_or, drop, leb, ltb, eqb, arith}
+use Rattle.std.proofs.lemmas.Bool.{false≢true, true≢false, leb-true, eqb-true, ne_eqb}
+use Rattle.std.proofs.Math.Decide.{dec_le}
+use Rattle.std.proofs.lemmas.List.{drop-drop, get_or-drop}
+use Rattle.laws.specs.Picks.{pick, each_of, pick-with}
 use Rattle.language.specs.Words.{count_t, count_n}
 use Rattle.layout.specs.Layout.{need, slots_at}
 use Rattle.matrix.specs.GrammarShape.{grammar_in_shape}
@@ -26,12 +18,6 @@ use Rattle.area.specs.Shape.{scan_slot, scanned, fresh_scan, side, bounds_fit, s
 use Rattle.area.specs.Shape.{walk_fits, area_in_shape, in_shape}
 use Rattle.area.proofs.Joined.{gone-tests, row-gone, row-wrong, row-live, row-bounds}
 use Rattle.area.specs.ShapeCode.{Sized, Few, Within, Countable}
-
-pub tag-last : (k l : ℕ) → k ≤ 1 → l ≡ tag (k - 1) l
-tag-last k l h = let e : k - 1 ≡ 0 = omega arith in rw e
-
-pub tag-early : (k l : ℕ) → 1 < k → 0 ≡ tag (k - 1) l
-tag-early k l h = let e : k - 1 ≡ suc (k - 2) = omega arith in rw e
 
 -- ---- (c)
 
@@ -47,20 +33,6 @@ sized_of area h =
       few-chunks = leb-true _ _ e.1.1.1.0;
       long = leb-true _ _ e.1.1.1.1.0;
     }
-
--- words too few for any row
-pub short : (area : List ℕ) → length area < 13 → rule_c area ≡ false
-short area h = go (leb 1 (get_or area 0 0)) (leb (get_or area 0 0) 16384) (leb 1 (get_or area 1 0)) (leb (get_or area 1 0) 64)
-  where
-    fails : leb (need (get_or area 0 0) (get_or area 1 0)) (length area) ≡ false
-    fails = lt-leb (need (get_or area 0 0) (get_or area 1 0)) (length area) (omega arith)
-
-    go : (a b c d : Bool) → all_of (a ∷ b ∷ c ∷ d ∷ leb (need (get_or area 0 0) (get_or area 1 0)) (length area) ∷ []) ≡ false
-    go true true true true = rw fails
-    go true true true false = refl
-    go true true false d = refl
-    go true false c d = refl
-    go false b c d = refl
 
 -- ---- the whole
 
@@ -159,10 +131,6 @@ pub blank-next : (zero : Bool) (k i : ℕ) (xs : List ℕ) → pick (zero && eqb
 blank-next true k i xs = sym (blank-more k i xs)
 blank-next false k i xs = refl
 
-pub blank-done : (zero : Bool) (xs : List ℕ) → zero ≡ pick zero (blank 0 xs) false
-blank-done true xs = refl
-blank-done false xs = refl
-
 -- ---- a row of the table more
 
 -- from is the end before it; from, head, end in order, and the end within the slots
@@ -236,14 +204,6 @@ module _ (t n : ℕ) (area : List ℕ) (sized : Sized area) (k : ℕ) (w : Walk)
       (λ s. none_within)))
       (λ i. none_within)
 
--- ---- numbers
-
-pub product-below : (a b : ℕ) → a < 65536 → b < 65536 → a * b < 4294967296
-product-below a b ha hb =
-    let i : a ≤ 65535 = omega arith in
-    let j : b ≤ 65535 = omega arith in
-    omega (arith, mul-le-mul_right b i, mul-le-mul_left 65535 j)
-
 -- ---- a row of the table, from the values that the code holds
 
 -- a status that fits is not that of a gone chunk
@@ -264,18 +224,19 @@ module _ (t n : ℕ) (area : List ℕ) (w : Walk) (x f h e y : ℕ) where
   unfolding line_of
   line-gone g = row-gone next w fallen w.ok (eqb x 0) (gone_fits f h e y) status bounds (rw (gone-tests f h e y) at g)
 
-  module _ {p : Bool} (d : p ≡ pick status bounds false) where
+  -- where `p` is what the tests of the status and the bounds are, over the first word
+  module _ {tokens : ℕ} {p : Bool} (z : tokens ≡ get_or area 0 0) (d : p ≡ pick status (bounds_fit tokens w.at f h e) false) where
     pub line-unfit : (w.ok && eqb x 0 && (eqb f 0 && eqb h 0 && eqb e 0 && eqb y 0)) ≡ false → (w.ok && p) ≡ false → fallen ≡ line_of t n area w x f h e y
     unfolding line_of
-    line-unfit g k = row-wrong next w fallen w.ok (eqb x 0) (gone_fits f h e y) status bounds (rw (gone-tests f h e y) at g) (rw d at k)
+    line-unfit g k = row-wrong next w fallen w.ok (eqb x 0) (gone_fits f h e y) status bounds (rw (gone-tests f h e y) at g) (rw (d, z) at k)
 
     module _ (k : (w.ok && p) ≡ true) where
       pub line-bounded : Bounded (get_or area 0 0) w.at f h e
-      line-bounded = bounded_of (get_or area 0 0) w.at f h e (row-bounds w.ok status bounds (rw d at k))
+      line-bounded = bounded_of (get_or area 0 0) w.at f h e (row-bounds w.ok status bounds (rw (d, z) at k))
 
       by-sides : next ≡ line_of t n area w x f h e y
       unfolding line_of
-      by-sides = row-live next w fallen w.ok (eqb x 0) (gone_fits f h e y) status bounds (rw d at k) (status-some x)
+      by-sides = row-live next w fallen w.ok (eqb x 0) (gone_fits f h e y) status bounds (rw (d, z) at k) (status-some x)
 
       module _ {stack unread : Scan} {r : Bool} (ss : stack ≡ side t n area f h) (us : unread ≡ side t n area h e) (rs : r ≡ sides_fit stack unread x h e y) where
         sides : r ≡ sides_fit (side t n area f h) (side t n area h e) x h e y
@@ -287,140 +248,26 @@ module _ (t n : ℕ) (area : List ℕ) (w : Walk) (x f h e y : ℕ) where
         pub line-fit : r ≡ true → counted w stack unread x e ≡ line_of t n area w x f h e y
         line-fit j = rw (ss, us) ((let q : next ≡ counted w (side t n area f h) (side t n area h e) x e = simp (sym sides ∙ j) in sym q) ∙ by-sides)
 
--- ---- words that are read one after another, from a place on
+-- ---- the loops over slots and over rows
 
-pub index-fits : {place count : ℕ} → place < count → count < 2 ^ 64 → Fits w64 place
-index-fits h g = omega arith
+pub one_of : {i end : ℕ} → i < end → end - i ≡ suc (end - (i + 1))
+one_of h = omega arith
 
--- so many words from a place on
-pub record Ahead (at words count : ℕ) : Type 0 where
-  pub room : at + words ≤ count
-
-module _ {at count : ℕ} where
-  module _ (h : Ahead at 4 count) where
-    pub word-0 : at < count
-    word-0 = omega (arith, h.room)
-
-    pub word-1 : at + 1 < count
-    word-1 = omega (arith, h.room)
-
-    pub word-2 : at + 2 < count
-    word-2 = omega (arith, h.room)
-
-    pub word-3 : at + 3 < count
-    word-3 = omega (arith, h.room)
-
-  module _ (h : Ahead at 5 count) where
-    pub four : Ahead at 4 count
-    four = record { room = omega (arith, h.room) }
-
-    pub word-4 : at + 4 < count
-    word-4 = omega (arith, h.room)
-
--- a word of the front, or of the first row
-pub front-word : {area : List ℕ} → Sized area → {i : ℕ} → i < 13 → i < length area
-front-word sized h = omega (arith, sized.long)
-
--- ---- the numbers of (j)
-
-module _ {low high : ℕ} (l : low < 65536) (h : high < 65536) where
-  pub high_fits : Fits w64 (65536 * high)
-  high_fits = omega arith
-
-  pub moves-fit : Fits w64 (low + 65536 * high)
-  moves-fit = omega arith
-
-  pub all-moves-fit : {more : ℕ} → more < 2 ^ 33 → Fits w64 (low + 65536 * high + more)
-  all-moves-fit m = omega arith
-
-module _ {product n count : ℕ} (p : product < 2 ^ 32) (h : n < 65536) (c : count < 65536) where
-  pub product-fits : Fits w64 (product + n)
-  product-fits = omega arith
-
-  pub most-fits : Fits w64 (product + n + 4 * count)
-  most-fits = omega arith
-
--- ---- the numbers of a live chunk's counts
-
-module _ {k e : ℕ} {w : Walk} {stack unread : Scan} (can : Countable k e w stack unread) where
-  pub unread-fits : Fits w16 (w.unread + unread.symbols)
-  unread-fits = omega (arith, can.end_low, can.unread-low)
-
-  pub stack-fits : Fits w16 (w.symbols + stack.symbols)
-  stack-fits = omega (arith, can.end_low, can.symbols-low)
-
-  pub symbols-fit : Fits w16 (w.symbols + stack.symbols + unread.symbols)
-  symbols-fit = omega (arith, can.end_low, can.symbols-low)
-
-  pub held_fits : Fits w16 (w.terminals + stack.terminals)
-  held_fits = omega (arith, can.end_low, can.terminals-low)
-
-  pub terminals-fit : Fits w16 (w.terminals + stack.terminals + unread.terminals)
-  terminals-fit = omega (arith, can.end_low, can.terminals-low)
-
--- ---- the numbers of the loops over slots and over rows
-
-pub ahead-fits : {at words count : ℕ} → Ahead at words count → count < 2 ^ 64 → Fits w64 (at + words)
-ahead-fits h g = omega (arith, h.room)
-
-module _ {i end : ℕ} where
-  pub one_of : i < end → end - i ≡ suc (end - (i + 1))
-  one_of h = omega arith
-
-  pub fewer : i < end → end - (i + 1) < end - i
-  fewer h = omega arith
-
-  pub none_of : end ≤ i → end - i ≡ 0
-  none_of h = omega arith
-
-module _ {from slot : ℕ} (h : from ≤ slot) where
-  pub further : from ≤ slot + 1
-  further = omega arith
-
-  pub passed-more : slot + 1 - from ≡ slot - from + 1
-  passed-more = omega arith
-
--- a slot of a side
-pub next-slot : (base slot : ℕ) {at : ℕ} → at ≡ base + 4 * slot → at + 4 ≡ base + 4 * (slot + 1)
-next-slot base slot e = omega arith
-
-module _ {area : List ℕ} (sized : Sized area) {slot to : ℕ} (h : slot < to) (low : to ≤ get_or area 0 0 + 2) where
-  pub slot-ahead : {at : ℕ} → at ≡ slots_at area + 4 * slot → Ahead at 4 (length area)
-  slot-ahead e = record { room = omega (arith, sized.long) }
-
-  pub slot-low : slot ≤ get_or area 0 0 + 1
-  slot-low = omega arith
-
-  pub slot-fits : Fits w16 (slot + 1)
-  slot-fits = omega (arith, sized.few-tokens)
-
-  pub few-here : (from : ℕ) (st : Scan) → Few (slot - from) st → Few 16386 st
-  few-here from st few =
-      let k : slot ≤ 16385 = omega (arith, sized.few-tokens) in
-      record { symbols = omega (arith, few.symbols); terminals = omega (arith, few.terminals); marks = omega (arith, few.marks) }
+pub passed-more : {from slot : ℕ} → from ≤ slot → slot + 1 - from ≡ slot - from + 1
+passed-more h = omega arith
 
 pub few-fresh : (from : ℕ) → Few (from - from) fresh_scan
 few-fresh from = record { symbols = omega arith; terminals = omega arith; marks = omega arith }
 
 -- a row of the table
-module _ {area : List ℕ} (sized : Sized area) {i count : ℕ} (h : i < count) (few : count ≡ get_or area 1 0) where
-  pub row-ahead : {at : ℕ} → at ≡ 5 + 5 * i → Ahead at 5 (length area)
-  row-ahead e = record { room = omega (arith, sized.long) }
-
-  pub row_fits : Fits w64 (i + 1)
-  row_fits = omega (arith, sized.few-chunks)
-
-  pub within-here : (w : Walk) → Within i w → Within 63 w
-  within-here w within =
-      let k : i ≤ 63 = omega (arith, sized.few-chunks) in
-      record {
-        at = within.at;
-        live = omega (arith, within.live);
-        running = omega (arith, within.running);
-        unread = within.unread;
-        symbols = within.symbols;
-        terminals = within.terminals;
-      }
-
-pub next_row : (i : ℕ) {at : ℕ} → at ≡ 5 + 5 * i → at + 5 ≡ 5 + 5 * (i + 1)
-next_row i e = omega arith
+pub within-here : {area : List ℕ} → Sized area → {i count : ℕ} → i < count → count ≡ get_or area 1 0 → (w : Walk) → Within i w → Within 63 w
+within-here sized {i = i} h few w within =
+    let k : i ≤ 63 = omega (arith, sized.few-chunks) in
+    record {
+      at = within.at;
+      live = omega (arith, within.live);
+      running = omega (arith, within.running);
+      unread = within.unread;
+      symbols = within.symbols;
+      terminals = within.terminals;
+    }

@@ -1,5 +1,6 @@
 // The work area: the rules that the words of a row being read keep.
 #![tactic(auto)]
+
 mod shape;
 
 ghost use Rattle.std.specs.Prelude.{◌≡◌};

@@ -1,15 +1,19 @@
 -- Words that pass 1 to 3 have a head, with T at most 63 and N at most 64; the walk reads within sized words only.
-use Rattle.std.proofs.Common.{◌≡◌, ℕ, ◌≤◌, true, List, length, ap, ◌∙◌, arith}
+use Rattle.std.proofs.Common.{◌≡◌, ℕ, ◌≤◌, Bool, true, ◌&&◌, List, length, ap, ◌∙◌, arith}
+use Rattle.std.proofs.lemmas.Bool.{and_parts}
 use Rattle.language.specs.Words.{count_t, count_n}
 use Rattle.matrix.specs.GrammarShape.{grammar_in_shape}
 use Rattle.matrix.specs.WordsOfShape.{headed}
 use Rattle.matrix.specs.EndMarkOfShape.{grammar-in-shape}
-use Rattle.area.specs.Shape.{walk_fits}
-use Rattle.area.proofs.Joined.{kept-both}
+use Rattle.area.specs.Shape.{rule_c, walk_fits}
 use Rattle.area.proofs.ShapeLaw.{sized_of, shape-left, shape-kept}
 use Rattle.area.proofs.in_shape.Goals as goal
 
 -- past the tests of grammar, matrix and sizes
+readable : (words matrix area : List ℕ) {a b : Bool} → a ≡ grammar_in_shape words matrix → b ≡ rule_c area → (a && b) ≡ true
+    → (grammar_in_shape words matrix ≡ true) × (rule_c area ≡ true)
+readable words matrix area d e h = and_parts _ _ (rw (d, e) at h)
+
 head : (words matrix : List ℕ) → grammar_in_shape words matrix ≡ true → (4 ≤ length words) × (count_t words ≤ 63) × (count_n words ≤ 64)
 head words matrix h = headed words (grammar-in-shape words matrix h).0
 
@@ -20,23 +24,26 @@ returns-then-not-readable c =
 
 pub word-t-requires : goal.word-t-requires
 word-t-requires c =
-    let read = kept-both _ _ (rw (c.grammar_in_shape.ensures, c.sized.ensures) at c.if-not-readable.false) in
-    omega (arith, head c.args.words.now c.args.matrix.now read.0)
+    let a = c.args in
+    let read = readable a.words.now a.matrix.now a.area.now c.grammar_in_shape.ensures c.sized.ensures c.if-not-readable.false in
+    omega (arith, head a.words.now a.matrix.now read.0)
 
 pub word-n-requires : goal.word-n-requires
 word-n-requires c =
-    let read = kept-both _ _ (rw (c.grammar_in_shape.ensures, c.sized.ensures) at c.if-not-readable.false) in
-    omega (arith, head c.args.words.now c.args.matrix.now read.0)
+    let a = c.args in
+    let read = readable a.words.now a.matrix.now a.area.now c.grammar_in_shape.ensures c.sized.ensures c.if-not-readable.false in
+    omega (arith, head a.words.now a.matrix.now read.0)
 
 pub walk_table-requires : goal.walk_table-requires
 walk_table-requires c =
-    let read = kept-both _ _ (rw (c.grammar_in_shape.ensures, c.sized.ensures) at c.if-not-readable.false) in
-    (rw c.word-n.ensures (head c.args.words.now c.args.matrix.now read.0).2, sized_of c.args.area.now read.1)
+    let a = c.args in
+    let read = readable a.words.now a.matrix.now a.area.now c.grammar_in_shape.ensures c.sized.ensures c.if-not-readable.false in
+    (rw c.word-n.ensures (head a.words.now a.matrix.now read.0).2, sized_of a.area.now read.1)
 
 pub returns : goal.returns
 returns c =
     let a = c.args in
-    let read = kept-both _ _ (rw (c.grammar_in_shape.ensures, c.sized.ensures) at c.if-not-readable.false) in
+    let read = readable a.words.now a.matrix.now a.area.now c.grammar_in_shape.ensures c.sized.ensures c.if-not-readable.false in
     c.walk_fits.ensures
     ∙ ap (walk_fits a.area.now) (rw (c.word-t.ensures, c.word-n.ensures) at c.walk_table.ensures)
     ∙ shape-kept a.words.now a.matrix.now a.area.now read.0 read.1

@@ -1,6 +1,5 @@
 -- The three cases of `scan_slot`.
-use Rattle.std.proofs.Common.{arith, eq-eqb}
-use borrow.Author.Tests.{ne_eqb}
+use Rattle.std.proofs.lemmas.Bool.{eq-eqb, ne_eqb}
 use Rattle.area.specs.Shape.{scan_slot}
 use Rattle.area.proofs.shape.scan_slot.Goals as goal
 

@@ -1,8 +1,7 @@
 -- A slot more: the scan goes on where the loop does, and counts at most one more of each.
-use Rattle.std.proofs.Common.{◌≡◌, ◌+◌, ◌-◌, sym, ◌∙◌, arith}
-use Rattle.layout.specs.Layout.{slots_at}
+use Rattle.std.proofs.Common.{◌+◌, ◌-◌, sym, ◌∙◌, arith}
 use Rattle.area.specs.Shape.{side}
-use Rattle.area.proofs.ShapeLaw.{scan-more, slot-few, one_of, passed-more, next-slot, few-fresh}
+use Rattle.area.proofs.ShapeLaw.{scan-more, slot-few, one_of, passed-more, few-fresh}
 use Rattle.area.proofs.shape.side.Goals as goal
 
 pub loop-slot-init : goal.loop-slot-init
@@ -22,7 +21,7 @@ loop-slot-preserved c =
     let l = c.loop-slot in
     record {
       started = omega arith;
-      place = next-slot (slots_at a.area.now) l.slot l.invariant.place;
+      place = omega arith;
       few =
           rw (passed-more l.invariant.started, c.scan_slot-st.ensures)
           (slot-few a.t a.n c.word-tokens.result l.slot l.st c.word.result c.word-in-loop-slot.result c.word-in-loop-slot-2.result

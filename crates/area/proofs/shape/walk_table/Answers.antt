@@ -1,7 +1,7 @@
 -- A row more: the walk goes on where the loop does, and counts no more than it has passed.
 use Rattle.std.proofs.Common.{◌≡◌, refl, ◌-◌, get_or, arith}
 use Rattle.area.specs.Shape.{walk_of}
-use Rattle.area.proofs.ShapeLaw.{line-within, one_of, within-here, next_row}
+use Rattle.area.proofs.ShapeLaw.{line-within, one_of, within-here}
 use Rattle.area.proofs.shape.walk_table.Goals as goal
 
 pub loop-i-init : goal.loop-i-init
@@ -15,16 +15,18 @@ loop-i-init c =
     }
 
 pub line-w-requires : goal.line-w-requires
-line-w-requires c =
-    (c.requires.0, c.requires.1,
-    within-here c.requires.1 c.loop-i-test.true c.wide_word-count.ensures.0 c.loop-i.w c.loop-i.invariant.within)
+line-w-requires c = (
+  c.requires.0,
+  c.requires.1,
+  within-here c.requires.1 c.loop-i-test.true c.wide_word-count.ensures.0 c.loop-i.w c.loop-i.invariant.within,
+)
 
 pub loop-i-preserved : goal.loop-i-preserved
 loop-i-preserved c =
     let a = c.args in
     let l = c.loop-i in
     record {
-      place = next_row l.i l.invariant.place;
+      place = omega arith;
       within =
           rw c.line-w.ensures
           (line-within a.t a.n a.area.now c.requires.1 l.i l.w l.invariant.within
