@@ -1,0 +1,11 @@
+-- `moves::next_live`: number d is not live, so the search goes on after it.
+use Rattle.std.proofs.Common.{◌∙◌, arith}
+use Rattle.laws.specs.Tests.{le-ltb}
+use Rattle.moving.specs.ReadWords.{live_at}
+use Rattle.moving.specs.Searches.{first_past}
+use Rattle.reader.proofs.moves.next_live.Goals as goal
+
+pub loop-d-preserved : goal.loop-d-preserved
+loop-d-preserved c =
+    let v = c.loop-d.invariant in
+    (omega arith, omega arith, v.2 ∙ first_past (live_at c.args.area.now) _ c.loop-d.d (omega arith) (le-ltb _ _ (rw c.row_word.ensures at c.if-row_word-gt0.false)))
