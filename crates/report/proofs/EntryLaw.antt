@@ -1,10 +1,6 @@
 -- The two answers of `entry_tokens`: the part of an entry that stands, and the part of no tokens at place 0 otherwise.
 -- Main statements: stands, stands-not.
-use mathlib.Core.Path.{◌≡◌, refl}
-use mathlib.Core.List.{List, []}
-use Prim.Native.Nat.{ℕ, ◌+◌, ◌*◌, ◌-◌, ◌≤◌}
-use native.Mathlib.Omega.{arith}
-use lib.ListN.{length, take, drop}
+use Rattle.std.proofs.Common.{◌≡◌, refl, List, [], ℕ, ◌+◌, ◌*◌, ◌-◌, ◌≤◌, length, take, drop, arith}
 use Rattle.laws.specs.Parts.{part_slice}
 use Rattle.report.specs.ReportCall.{second_word, third_word, entry_start, entry_tokens, word_address}
 use Rattle.report.specs.EntryTests.{entry-stands, entry-fails}

@@ -1,13 +1,6 @@
 -- What the steps of the module `outcome` find and write.
 -- Main statements: none-step, none_end; report-written.
-use mathlib.Core.Path.{◌≡◌, ap, ap₂, ◌∙◌}
-use mathlib.Core.Bool.{true, false}
-use mathlib.Core.List.{List, ◌++◌}
-use Prim.Native.Nat.{ℕ, suc, ◌+◌, ◌*◌, ◌-◌, ◌≤◌, ◌<◌}
-use native.Mathlib.Omega.{arith}
-use lib.Dec.{eqb}
-use lib.ListN.{length, get_or, take, drop}
-use lib.Seq.{drop_at}
+use Rattle.std.proofs.Common.{◌≡◌, ap, ap₂, ◌∙◌, true, false, List, ◌++◌, ℕ, suc, ◌+◌, ◌*◌, ◌-◌, ◌≤◌, ◌<◌, eqb, length, get_or, take, drop, drop_at, arith}
 use Rattle.laws.specs.Picks.{pick}
 use Rattle.language.specs.Trees.{Span, Reduction}
 use Rattle.language.specs.Reports.{put_in_order, report_words}

@@ -1,10 +1,6 @@
 -- The two ways of `report`: 15 where a shape rule is broken, and otherwise the outcome read off the words.
 -- Main statements: refused-state, ready, reported-state.
-use mathlib.Core.Path.{◌≡◌, sym, ◌∙◌}
-use mathlib.Core.Bool.{Bool, true, false}
-use mathlib.Core.List.{List}
-use Prim.Native.Nat.{ℕ, ◌<◌}
-use lib.ListN.{length, get_or}
+use Rattle.std.proofs.Common.{◌≡◌, sym, ◌∙◌, Bool, true, false, List, ℕ, ◌<◌, length, get_or}
 use Rattle.refusals.specs.declared.Refusal.TheVariants.{BadState}
 use Rattle.refusals.specs.declared.ReportAnswer.{ReportAnswer}
 use Rattle.refusals.specs.declared.ReportAnswer.TheVariants.{Refused}

@@ -1,5 +1,6 @@
 // The report of a finished row, and the tokens of one of its entries. Their meanings stand in specs/.
 #![tactic(auto)]
+
 mod order;
 mod outcome;
 
