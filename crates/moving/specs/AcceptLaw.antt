@@ -11,7 +11,7 @@ use mathlib.Core.List.{List, [], ◌∷◌, ◌++◌, append-nil}
 use Rattle.std.proofs.Math.Option.{Option, some}
 use Prim.Native.Nat.{ℕ, suc, ◌+◌, ◌*◌, ◌-◌, ◌<◌, ◌≤◌}
 use native.Mathlib.Omega.{arith}
-use Rattle.laws.specs.Parts.{flat, before, set-part}
+use Rattle.laws.specs.Parts.{flat, set-part}
 use Rattle.language.specs.Trees.{Span, Reduction}
 use Rattle.machine.specs.Entries.{Unread, terminal_at, nonterminal_at, Entry, terminal_on, nonterminal_on}
 use Rattle.machine.specs.Chunks.{Status, Chunk}

@@ -13,7 +13,7 @@ use mathlib.Core.List.{List, [], ◌∷◌, ◌++◌, append_assoc, append-nil}
 use Rattle.std.proofs.Math.Option.{Option, none, some}
 use Rattle.std.proofs.Math.ListN.{length-append}
 use Rattle.std.proofs.Math.Seq.{split_at}
-use Rattle.laws.specs.Parts.{flat, before, get_d_part}
+use Rattle.laws.specs.Parts.{flat, get_d_part}
 use Rattle.language.specs.Symbols.{word_of}
 use Rattle.language.specs.Trees.{Span, Reduction}
 use Rattle.machine.specs.Entries.{Unread, symbol}

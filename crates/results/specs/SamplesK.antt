@@ -8,7 +8,7 @@
 -- Main definitions: grammar_k, grammar_k6, expressions.
 -- Main statements: words-K, sets-K, sizes-K, relations-K, matrix-K, conflict-K, conflict-K6; sets-expressions, table-3-1,
 -- paren-over-end, end-over-paren.
-use Rattle.std.specs.Prelude.{◌≡◌, refl, List, [], ◌∷◌, ◌++◌, map, ℕ, zero, suc}
+use Rattle.std.specs.Prelude.{◌≡◌, refl, List, [], ◌∷◌, ◌++◌, ℕ, zero, suc}
 use Rattle.std.proofs.Math.Option.{none, some}
 use Rattle.laws.specs.Tabulate.{tabulate}
 use Rattle.language.specs.Symbols.{Symbol, terminal, nonterminal, blank, relation_number}

@@ -15,7 +15,7 @@ use Rattle.laws.specs.Parts.{held_at}
 use Rattle.language.specs.Trees.{Span, Reduction}
 use Rattle.language.specs.Reports.{report_words}
 use Rattle.machine.specs.Chunks.{Chunk}
-use Rattle.machine.specs.States.{State, live}
+use Rattle.machine.specs.States.{State}
 use Rattle.results.specs.Bounded.{most_moves}
 use Rattle.area.specs.declared.shape.Walk.{Walk}
 use Rattle.layout.specs.Layout.{need, front, total, rows, slots, zeros, encode, slots_at, made_at_word}
