@@ -1,5 +1,6 @@
 // The calls that move a row: step, run, join, and an uncut row read through. Their meanings stand in crate `moving`, in its specs Calls and ReadCall.
 #![tactic(auto)]
+
 mod calls;
 mod moves;
 

@@ -1,5 +1,5 @@
 -- `calls::takes`: no mark on the stack; or a handle, whose rule is looked up.
-use Rattle.std.proofs.Common.{◌≡◌, sym, ◌∙◌, arith}
+use Rattle.std.proofs.Common.{sym, ◌∙◌, arith}
 use Rattle.moving.specs.Moved.{words-readable, put-unmarked, starts-below, handle-there, handle-counts, stuck-rule, has_left, reduces}
 use Rattle.moving.specs.OneMove.{can-push, can-stick, can-read}
 use Rattle.moving.specs.Settled.{settles}

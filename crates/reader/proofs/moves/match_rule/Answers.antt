@@ -3,7 +3,7 @@ use Rattle.std.proofs.Common.{◌≡◌, ◌+◌, ◌-◌, ℕ, refl, sym, ap, �
 use Rattle.std.proofs.Math.Seq.{slice}
 use Rattle.laws.specs.Least.{first_from}
 use Rattle.moving.specs.Comparing.{body-next, count_fits, same_length, same-there, counts-on, same-past, same-differ, same-both}
-use Rattle.moving.specs.MatchWords.{has_right, same_words, handle_words, match_words, matched_of, whole_le, whole-rest}
+use Rattle.moving.specs.MatchWords.{has_right, same_words, handle_words, match_words, matched_of, whole-rest}
 use Rattle.moving.specs.Searches.{first-here, first_past}
 use Rattle.reader.proofs.moves.match_rule.Goals as goal
 
