@@ -3,7 +3,7 @@
 -- Document 01: "Every grammar, token list, cutting and call gets an answer, with nothing assumed checked beforehand"; "Each public function promises
 -- its answer and the final content of everything lent to it, for all inputs, refusals too".
 -- A function's `clauses` are what its proof is held to; `args` are its parameters in their order, `end` what its slices refer to when it ends, `now` the
--- words of a slice. 𝓤, H, A, mem and routines are the program logic's own.
+-- words of a slice. 𝓤, 𝓛, mem and routines are the program logic's own.
 -- Rests on PublicCalls and on the contracts in crates refusals, words, table, matrix, area, start, reader, parse and report, and on nothing else.
 --
 -- Main definition: AsPromised. Main statements: contracts; promise-kept, one-answer-only (what keeps these lines is one answer and one content of each run).
@@ -11,10 +11,9 @@ use Rattle.std.specs.Prelude.{◌≡◌, refl}
 use Rattle.std.proofs.Common.{sym, ap, ◌∙◌}
 use seplogic.Ra.Ura.{Ura}
 use base.Logic.{SProp}
-use prog.Wp.{Heap}
 use prog.Memory.{Memory}
 use prog.Routine.{Routine}
-use ghost.Atoms.{Atoms}
+use types.Logic.{Logic}
 use contract.Monad.{Fun}
 use contract.Notation
 use Rattle.refusals.specs.contracts.number as number
@@ -39,11 +38,11 @@ use Rattle.report.specs.contracts.entry_tokens as entry-tokens
 use Rattle.demands.specs.PublicCalls.{PublicCall, GivesBack, promised, Both, AllThree, Keeps}
 use Rattle.demands.specs.PublicCalls as call
 
-module _ {M : Type 1} (𝓤 : Ura M) (H : Heap 𝓤) (A : Atoms 𝓤) (mem : Memory → SProp 𝓤) (routines : Routine → Fun 𝓤) where
-  abbrev 𝓛 : Notation.Connectives 𝓤
-  𝓛 = Notation.connectives 𝓤
+module _ {M : Type 1} {𝓤 : Ura M} (𝓛 : Logic 𝓤) (mem : Memory → SProp 𝓤) (routines : Routine → Fun 𝓤) where
+  abbrev 𝓝 : Notation.Connectives 𝓤
+  𝓝 = Notation.connectives 𝓤
 
-  open 𝓛 use {⌜◌⌝, ◌∗◌, ⊤ₛ}
+  open 𝓝 use {⌜◌⌝, ◌∗◌, ⊤ₛ}
 
   -- a contract of one line, of two and of three, each an equation: the lines of Keeps
   abbrev one_line : {A : Type 0} → A → A → SProp 𝓤
@@ -61,62 +60,62 @@ module _ {M : Type 1} (𝓤 : Ura M) (H : Heap 𝓤) (A : Atoms 𝓤) (mem : Mem
 
   pub record AsPromised : Type 2 where
     pub of_number : (κs args r end : _)
-        → Says ((number.clauses 𝓤 H A mem routines κs args).requires tt) ((number.clauses 𝓤 H A mem routines κs args).ensures tt r end)
+        → Says ((number.clauses 𝓛 mem routines κs args).requires tt) ((number.clauses 𝓛 mem routines κs args).ensures tt r end)
         (one_line r (promised (call.number-of args.0)))
     pub of-value : (κs args r end : _)
-        → Says ((value.clauses 𝓤 H A mem routines κs args).requires tt) ((value.clauses 𝓤 H A mem routines κs args).ensures tt r end)
+        → Says ((value.clauses 𝓛 mem routines κs args).requires tt) ((value.clauses 𝓛 mem routines κs args).ensures tt r end)
         (one_line r (promised (call.value-of args.0)))
     pub of-stuck-refusal : (κs args r end : _)
-        → Says ((stuck-refusal.clauses 𝓤 H A mem routines κs args).requires tt) ((stuck-refusal.clauses 𝓤 H A mem routines κs args).ensures tt r end)
+        → Says ((stuck-refusal.clauses 𝓛 mem routines κs args).requires tt) ((stuck-refusal.clauses 𝓛 mem routines κs args).ensures tt r end)
         (one_line r (promised (call.stuck-refusal args.0 args.1.0)))
     pub of-check-symbols : (κs args r end : _)
-        → Says ((check-symbols.clauses 𝓤 H A mem routines κs args).requires tt) ((check-symbols.clauses 𝓤 H A mem routines κs args).ensures tt r end)
+        → Says ((check-symbols.clauses 𝓛 mem routines κs args).requires tt) ((check-symbols.clauses 𝓛 mem routines κs args).ensures tt r end)
         (one_line r (promised (call.check-symbols args.0.now)))
     pub of-check-words : (κs args r end : _)
-        → Says ((check-words.clauses 𝓤 H A mem routines κs args).requires tt) ((check-words.clauses 𝓤 H A mem routines κs args).ensures tt r end)
+        → Says ((check-words.clauses 𝓛 mem routines κs args).requires tt) ((check-words.clauses 𝓛 mem routines κs args).ensures tt r end)
         (one_line r (promised (call.check-words args.0.now)))
     pub of-body-of : (κs args r end : _)
-        → Says ((body_of.clauses 𝓤 H A mem routines κs args).requires tt) ((body_of.clauses 𝓤 H A mem routines κs args).ensures tt r end)
+        → Says ((body_of.clauses 𝓛 mem routines κs args).requires tt) ((body_of.clauses 𝓛 mem routines κs args).ensures tt r end)
         (one_line r (promised (call.body_of args.0.now args.1.0)))
     pub of-load : (κs args r end : _)
-        → Says ((load.clauses 𝓤 H A mem routines κs args).requires tt) ((load.clauses 𝓤 H A mem routines κs args).ensures tt r end)
+        → Says ((load.clauses 𝓛 mem routines κs args).requires tt) ((load.clauses 𝓛 mem routines κs args).ensures tt r end)
         (two-lines (r, end.1.0.now) (promised (call.load args.0.now args.1.0.now)))
     pub of-left-set : (κs args r end : _)
-        → Says ((left-set.clauses 𝓤 H A mem routines κs args).requires tt) ((left-set.clauses 𝓤 H A mem routines κs args).ensures tt r end)
+        → Says ((left-set.clauses 𝓛 mem routines κs args).requires tt) ((left-set.clauses 𝓛 mem routines κs args).ensures tt r end)
         (one_line r (promised (call.left-set args.0.now args.1.0)))
     pub of-right-set : (κs args r end : _)
-        → Says ((right-set.clauses 𝓤 H A mem routines κs args).requires tt) ((right-set.clauses 𝓤 H A mem routines κs args).ensures tt r end)
+        → Says ((right-set.clauses 𝓛 mem routines κs args).requires tt) ((right-set.clauses 𝓛 mem routines κs args).ensures tt r end)
         (one_line r (promised (call.right-set args.0.now args.1.0)))
     pub of-grammar-in-shape : (κs args r end : _)
-        → Says ((grammar-in-shape.clauses 𝓤 H A mem routines κs args).requires tt) ((grammar-in-shape.clauses 𝓤 H A mem routines κs args).ensures tt r end)
+        → Says ((grammar-in-shape.clauses 𝓛 mem routines κs args).requires tt) ((grammar-in-shape.clauses 𝓛 mem routines κs args).ensures tt r end)
         (one_line r (promised (call.grammar-in-shape args.0.now args.1.0.now)))
     pub of-in-shape : (κs args r end : _)
-        → Says ((in-shape.clauses 𝓤 H A mem routines κs args).requires tt) ((in-shape.clauses 𝓤 H A mem routines κs args).ensures tt r end)
+        → Says ((in-shape.clauses 𝓛 mem routines κs args).requires tt) ((in-shape.clauses 𝓛 mem routines κs args).ensures tt r end)
         (one_line r (promised (call.in-shape args.0.now args.1.0.now args.1.1.0.now)))
     pub of-start : (κs args r end : _)
-        → Says ((start.clauses 𝓤 H A mem routines κs args).requires tt) ((start.clauses 𝓤 H A mem routines κs args).ensures tt r end)
+        → Says ((start.clauses 𝓛 mem routines κs args).requires tt) ((start.clauses 𝓛 mem routines κs args).ensures tt r end)
         (two-lines (r, end.1.1.1.1.0.now)
         (promised (call.start args.0.now args.1.0.now args.1.1.0.now args.1.1.1.0.now args.1.1.1.1.0.now)))
     pub of-step : (κs args r end : _)
-        → Says ((step.clauses 𝓤 H A mem routines κs args).requires tt) ((step.clauses 𝓤 H A mem routines κs args).ensures tt r end)
+        → Says ((step.clauses 𝓛 mem routines κs args).requires tt) ((step.clauses 𝓛 mem routines κs args).ensures tt r end)
         (two-lines (r, end.1.1.0.now) (promised (call.step args.0.now args.1.0.now args.1.1.0.now args.1.1.1.0)))
     pub of-run : (κs args r end : _)
-        → Says ((run.clauses 𝓤 H A mem routines κs args).requires tt) ((run.clauses 𝓤 H A mem routines κs args).ensures tt r end)
+        → Says ((run.clauses 𝓛 mem routines κs args).requires tt) ((run.clauses 𝓛 mem routines κs args).ensures tt r end)
         (two-lines (r, end.1.1.0.now) (promised (call.run args.0.now args.1.0.now args.1.1.0.now args.1.1.1.0 args.1.1.1.1.0)))
     pub of-join : (κs args r end : _)
-        → Says ((join.clauses 𝓤 H A mem routines κs args).requires tt) ((join.clauses 𝓤 H A mem routines κs args).ensures tt r end)
+        → Says ((join.clauses 𝓛 mem routines κs args).requires tt) ((join.clauses 𝓛 mem routines κs args).ensures tt r end)
         (two-lines (r, end.1.1.0.now) (promised (call.join args.0.now args.1.0.now args.1.1.0.now args.1.1.1.0)))
     pub of-read-through : (κs args r end : _)
-        → Says ((read_through.clauses 𝓤 H A mem routines κs args).requires tt) ((read_through.clauses 𝓤 H A mem routines κs args).ensures tt r end)
+        → Says ((read_through.clauses 𝓛 mem routines κs args).requires tt) ((read_through.clauses 𝓛 mem routines κs args).ensures tt r end)
         (two-lines (r, end.1.1.1.0.now) (promised (call.read_through args.0.now args.1.0.now args.1.1.0.now args.1.1.1.0.now)))
     pub of-report : (κs args r end : _)
-        → Says ((report.clauses 𝓤 H A mem routines κs args).requires tt) ((report.clauses 𝓤 H A mem routines κs args).ensures tt r end)
+        → Says ((report.clauses 𝓛 mem routines κs args).requires tt) ((report.clauses 𝓛 mem routines κs args).ensures tt r end)
         (two-lines (r, end.1.1.1.0.now) (promised (call.report args.0.now args.1.0.now args.1.1.0.now args.1.1.1.0.now)))
     pub of-parse : (κs args r end : _)
-        → Says ((parse.clauses 𝓤 H A mem routines κs args).requires tt) ((parse.clauses 𝓤 H A mem routines κs args).ensures tt r end)
+        → Says ((parse.clauses 𝓛 mem routines κs args).requires tt) ((parse.clauses 𝓛 mem routines κs args).ensures tt r end)
         (three-lines (r, end.1.1.0.now, end.1.1.1.0.now) (promised (call.parse args.0.now args.1.0.now args.1.1.0.now args.1.1.1.0.now)))
     pub of-entry-tokens : (κs args r end : _)
-        → Says ((entry-tokens.clauses 𝓤 H A mem routines κs args).requires tt) ((entry-tokens.clauses 𝓤 H A mem routines κs args).ensures tt r end)
+        → Says ((entry-tokens.clauses 𝓛 mem routines κs args).requires tt) ((entry-tokens.clauses 𝓛 mem routines κs args).ensures tt r end)
         (two-lines (r.now, r.ref_ptr) (promised (call.entry-tokens args.0.now args.1.0 args.1.1.0.now args.1.1.0.ref_ptr)))
 
   pub contracts : AsPromised

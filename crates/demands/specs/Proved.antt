@@ -32,7 +32,7 @@ use Rattle.demands.specs.Demands.{Demand1Contracts, Demand1, Demand1Parse, Deman
 use Rattle.demands.specs.Demands.{Demand3, Demand3Finishes, StartNever15, tokens_in}
 
 pub demand-1-contracts : Demand1Contracts
-demand-1-contracts M = contracts
+demand-1-contracts M 𝓤 𝓛 mem routines = contracts 𝓛 mem routines
 
 pub demand-1 : Demand1
 demand-1 call = record {
