@@ -1,6 +1,6 @@
 -- What the steps of the module `outcome` find and write.
--- Main statements: none-step, none_end; report-written.
-use Rattle.std.proofs.Common.{◌≡◌, ap, ap₂, ◌∙◌, true, false, List, ◌++◌, ℕ, suc, ◌+◌, ◌*◌, ◌-◌, ◌≤◌, ◌<◌, eqb, length, get_or, take, drop, drop_at, arith}
+-- Main statements: none-step; report-written.
+use Rattle.std.proofs.Common.{◌≡◌, ap, ap₂, ◌∙◌, false, List, ◌++◌, ℕ, suc, ◌+◌, ◌*◌, ◌-◌, ◌≤◌, ◌<◌, eqb, length, get_or, take, drop, drop_at, arith}
 use Rattle.laws.specs.Picks.{pick}
 use Rattle.language.specs.Trees.{Span, Reduction}
 use Rattle.language.specs.Reports.{put_in_order, report_words}
@@ -14,9 +14,6 @@ use Rattle.report.proofs.SortLaw.{front-is}
 pub none-step : (area : List ℕ) (i chunk count : ℕ) → chunk < count
     → none_live (count - chunk) area i ≡ pick (eqb (get_or area i 0) 0) (none_live (count - (chunk + 1)) area (i + 5)) false
 none-step area i chunk count h = let e : count - chunk ≡ suc (count - (chunk + 1)) = omega arith in rw (e, none_live)
-
-pub none_end : (area : List ℕ) (i chunk count : ℕ) → count ≤ chunk → none_live (count - chunk) area i ≡ true
-none_end area i chunk count h = let e : count - chunk ≡ 0 = omega arith in rw e
 
 -- the reductions copied to the front of a run, and then put in order there
 pub report-written : (area out : List ℕ) (made count : ℕ) {copied last : List ℕ} → made + 3 * count ≤ length area

@@ -1,38 +1,24 @@
--- Words stored one after another: what is still to be stored after one row, one slot, one word more; and the whole of a start in the
+-- Words stored one after another: what is still to be stored after the slots, after one word more; and the whole of a start in the
 -- order of its parts.
 -- Rests on Start, StartWords and StartChecks.
 --
--- Main statements: rows_more, rows_last, slots-more, slots-last, zeros-more, zeros-last (a turn of each loop, and its end),
--- slots-stored, start-stored; area_kept, area-started (what start leaves).
-use Rattle.std.proofs.Common.{◌≡◌, sym, ap, ◌∙◌, List, ◌++◌, ℕ, suc, ◌+◌, ◌*◌, ◌-◌, ◌≤◌, ◌<◌, length, get_or, drop, drop_of_length-le, drop-cons, add-one, arith}
+-- Main statements: slots-first, slots-last, zeros-more, zeros-last (where the slots begin and end; a turn of the loop of zeros, and its
+-- end), slots-stored, start-stored; area_kept, area-started (what start leaves).
+use Rattle.std.proofs.Common.{◌≡◌, sym, ap, ◌∙◌, List, ◌++◌, ℕ, suc, ◌+◌, ◌*◌, ◌-◌, ◌≤◌, ◌<◌, length, drop, drop_of_length-le, arith}
 use Rattle.std.proofs.Math.ListN.{set}
-use Rattle.std.proofs.Math.Numerals.{add-four, add_five}
+use Rattle.std.proofs.Math.Numerals.{add-four}
 use Rattle.std.proofs.lemmas.List.Edits.{sets, sets-eq}
 use Rattle.laws.specs.Parts.{sets-append}
 use Rattle.refusals.specs.declared.Refusal.{Refusal}
 use Rattle.refusals.specs.declared.Answer.TheVariants.{Done, Refused}
 use Rattle.layout.specs.Layout.{need, zeros}
 use Rattle.start.specs.Start.{start_answer, started_area, start_area}
-use Rattle.start.specs.StartWords.{start_front, start_row, start_rows, start_slot, unread_slots, start_slots, start_words, length-start-rows, length-start-slots}
+use Rattle.start.specs.StartWords.{start_front, start_rows, start_slot, unread_slots, start_slots, start_words, length-start-rows, length-start-slots}
 use Rattle.start.specs.StartWords.{start-words, start-words-length}
 use Rattle.start.specs.StartChecks.{writable, right-cuts}
 
-module _ (area cuts : List ℕ) (n from head at i : ℕ) where
-  pub rows_more : i < length cuts
-      → sets area at (start_rows n from head (drop i cuts))
-      ≡ sets (sets area at (start_row from head (get_or cuts i 0 + 1))) (at + 5) (start_rows n (get_or cuts i 0 + 1) (get_or cuts i 0 + 1) (drop (i + 1) cuts))
-  rows_more h = rw (drop-cons cuts i 0 h, add_five at, add-one i)
-
-  pub rows_last : length cuts ≤ i → sets area at (start_rows n from head (drop i cuts)) ≡ sets area at (start_row from head (n + 2))
-  rows_last h = rw (drop_of_length-le cuts {i = i} h)
-
-module _ (area tokens : List ℕ) (at i : ℕ) where
-  pub slots-more : i < length tokens
-      → sets area at (unread_slots (drop i tokens)) ≡ sets (sets area at (start_slot (get_or tokens i 0))) (at + 4) (unread_slots (drop (i + 1) tokens))
-  slots-more h = rw (drop-cons tokens i 0 h, add-four at, add-one i)
-
-  pub slots-last : length tokens ≤ i → sets area at (unread_slots (drop i tokens)) ≡ sets area at (start_slot 0)
-  slots-last h = rw (drop_of_length-le tokens {i = i} h)
+pub slots-last : (area tokens : List ℕ) (at i : ℕ) → length tokens ≤ i → sets area at (unread_slots (drop i tokens)) ≡ sets area at (start_slot 0)
+slots-last area tokens at i h = rw (drop_of_length-le tokens {i = i} h)
 
 pub slots-first : (area tokens : List ℕ) (base : ℕ) → sets (sets area base (start_slot 0)) (base + 4) (unread_slots tokens) ≡ sets area base (start_slots tokens)
 slots-first area tokens base = rw (add-four base)
@@ -46,13 +32,6 @@ module _ (area : List ℕ) (from count i : ℕ) where
 
   pub zeros-last : count ≤ i → sets area (from + i) (zeros (count - i)) ≡ area
   zeros-last h = let e : count - i ≡ 0 = omega arith in rw e
-
--- .. of which at first none is stored
-pub none_more : (from : ℕ) → from + 0 ≡ from
-none_more from = omega arith
-
-pub none-less : (count : ℕ) → count - 0 ≡ count
-none-less count = omega arith
 
 -- the slots and then the zeros, one after the other
 pub slots-stored : (area tokens : List ℕ) (base made : ℕ) → made ≡ base + 4 * (length tokens + 2)
