@@ -1,6 +1,6 @@
 # build.sh: read by run.sh and count.sh. Builds the static library, and with it, the hand-written parser and Bison's parser the program
 # target/bench/bench. Needs the Rattle kit, a C compiler (examples/machine.sh) and Bison (Debian's package bison). The library is compiled at
-# -O3 by the kit; all the C is compiled at -O3 by one compiler.
+# -O2 by the kit, whose level that is where crates.txt names none; all the C is compiled at -O3 by one compiler.
 . examples/library.sh
 . examples/machine.sh
 command -v bison >/dev/null || { echo "no bison: install Debian's package bison" >&2; exit 2; }
