@@ -1,5 +1,6 @@
 // The front-to-back parse in one call: the grammar loaded, the row read through, its outcome, and the work area cleared. Its meaning stands in specs/.
 #![tactic(auto)]
+
 mod parsing;
 
 ghost use Rattle.std.specs.Prelude.{◌≡◌, length};
