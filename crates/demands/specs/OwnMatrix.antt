@@ -17,7 +17,8 @@ use Rattle.language.proofs.Loads.{accepted-exactly}
 use Rattle.machine.specs.Spans.{span_of}
 use Rattle.machine.specs.TableOf.{relation_at, table_of}
 use Rattle.machine.proofs.TableOf.{relation-of-words}
-pub use Rattle.machine.specs.TableOf.{own_table, own-end-mark, own-laws}
+pub use Rattle.machine.specs.TableOf.{own_table}
+pub use Rattle.machine.proofs.TableOf.{own-end-mark, own-laws}
 use Rattle.matrix.specs.GrammarShape.{grammar_in_shape}
 use Rattle.matrix.specs.EndMarkOfShape.{matrix-in-shape}
 pub use Rattle.matrix.specs.EndMarkOfShape.{own-shape}

@@ -85,9 +85,9 @@ module _ {words bytes tokens cuts area₀ : List ℕ} (begun : Begun words bytes
   right-from : {area : List ℕ} {made : ℕ} → Standing words tokens cuts area made → {calls : List Call} → AllOfLoad words bytes calls
       → EachRight words area calls
   right-from h no_call = no_more
-  right-from h (and-call {call = call} of-load all) =
+  right-from {area} h (and-call {call = call} of-load all) =
       let view = standing-view begun h call of-load in
-      and_right (viewed-never-15 view) (λ n. (viewed-stays view n).0) (right-from (standing-call begun h call of-load) all)
+      and_right (viewed-never-15 view) (λ n. (viewed-stays view n).0) (right-from {area = call_area words area call} (standing-call begun h call of-load) all)
 
   -- (a) none answers 15, and a refused one changes nothing: of each call of a list
   pub each_right : {calls : List Call} → AllOfLoad words bytes calls → EachRight words area₀ calls

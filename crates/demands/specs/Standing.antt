@@ -160,7 +160,7 @@ module _ {words bytes tokens cuts area₀ : List ℕ} (begun : Begun words bytes
   standing-from {area} {made} h (and-call {call = call} {calls = calls} own all) =
       let z : made + (call_made words area call + moves_made words (call_area words area call) calls)
       ≡ made + call_made words area call + moves_made words (call_area words area call) calls = omega arith in
-      rw z (standing-from (standing-call h call own) all)
+      rw z (standing-from {area = call_area words area call} (standing-call h call own) all)
 
   -- .. and so does any list of calls
   pub standing-after : {calls : List Call} → AllOfLoad words bytes calls
