@@ -33,7 +33,7 @@ use Rattle.demands.specs.PublicCalls.{PublicCall, GivesBack, promised, Keeps, nu
 use Rattle.demands.specs.GivenDemand.{GivenFor}
 use Rattle.demands.specs.AnswersDemand.{ParseAreaLeft}
 use Rattle.demands.specs.Calls.{Call, matrix_for, call_made, area_after, moves_made, OfLoad, AllOfLoad, Begun}
-use Rattle.demands.specs.OwnMatrix.{own_table}
+use Rattle.machine.specs.TableOf.{own_table}
 use Rattle.demands.specs.Standing.{Standing}
 use Rattle.demands.specs.ParseDemand.{RightTokens, UncutReader, entries_of, ParseReports, GotStuck}
 use Rattle.demands.specs.MoveDemand.{StepLeaves, RunLeaves, JoinLeaves}

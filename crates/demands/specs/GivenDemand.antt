@@ -5,14 +5,10 @@
 -- Rests on PublicCalls, on language's Checks and Loads, start's Start, machine's AllowedExactly, GivenExactly and Counts, and ParseDemand.
 --
 -- Main definitions: SetGiven, StepGiven, RunGiven, JoinGiven, ReportGiven, ParseGiven; GivenFor (of any call). Main statement: given-for.
-use Rattle.std.specs.Prelude.{◌≡◌, Bool, ◌↔◌, ℕ, ◌*◌, ◌≤◌, ◌<◌}
-use Rattle.std.proofs.Math.Path.{refl, ap}
-use Rattle.std.proofs.Common.{◌∙◌}
+use Rattle.std.specs.Prelude.{◌≡◌, ◌↔◌, ℕ, ◌*◌, ◌≤◌, ◌<◌}
 use Rattle.std.proofs.Math.Bool.{true, false}
 use mathlib.Core.List.{List, []}
-use Rattle.std.proofs.Math.Dec.{ltb}
 use Rattle.std.proofs.Math.ListN.{length}
-use Rattle.laws.specs.Tests.{ltb-true, ltb-false, lt-ltb, le-ltb}
 use Rattle.refusals.specs.declared.Refusal.{Refusal}
 use Rattle.refusals.specs.declared.Refusal.TheVariants.{NoRoom, NoChunk, AtRest, NoJoin, BadState, Unfinished}
 use Rattle.refusals.specs.declared.Answer.{Answer}
@@ -25,131 +21,46 @@ use Rattle.refusals.specs.declared.ReportAnswer.{ReportAnswer}
 use Rattle.refusals.specs.declared.ReportAnswer.TheVariants as reports
 use Rattle.language.specs.Grammar.{Grammar, mirrored}
 use Rattle.language.specs.Words.{grammar_of}
-use Rattle.language.specs.Stages.{ready, finding, Given}
-use Rattle.language.proofs.Stages.{given-exactly}
-use Rattle.language.proofs.CheckHead.{head-finds}
-use Rattle.language.proofs.CheckContents.{contents-finds}
-use Rattle.language.proofs.CheckSymbols.{symbols-find}
-use Rattle.language.proofs.CheckForm.{form-finds}
-use Rattle.language.proofs.CheckTwins.{twins-find}
+use Rattle.language.specs.Stages.{Given}
 use Rattle.language.specs.Checks.{symbol_conditions, word_conditions, check_symbols, check_words}
-use Rattle.language.proofs.Checks.{words-ready}
-use Rattle.language.proofs.Conflicts.{conflict-finds}
-use Rattle.language.proofs.WordsInRange.{in-range}
 use Rattle.language.specs.SetMasks.{left_set, left_size}
 use Rattle.language.specs.Matrix.{matrix_of}
 use Rattle.language.specs.Loads.{LoadInput, load_conditions, load_answer}
-use Rattle.language.proofs.Loads.{room-finds, accepted-exactly}
-use Rattle.language.specs.Loads.{SetInput, set_conditions, set_checked, set_or_refusal, left_set_answer, right_set_answer}
-use Rattle.language.proofs.Loads.{nonterminal-finds}
+use Rattle.language.specs.Loads.{SetInput, set_conditions, left_set_answer, right_set_answer}
 use Rattle.language.specs.Trees.{Span, Reduction}
 use Rattle.machine.specs.Moves.{Stuck}
-use Rattle.machine.specs.States.{State, Called, Ran, Outcome, refused_row, reported, refusal_of, outcome}
-use Rattle.machine.specs.States
+use Rattle.machine.specs.States.{State, refusal_of}
 use Rattle.machine.specs.TableOf.{table_of}
 use Rattle.machine.specs.Allowed.{Live, Steps, JoinsAt}
-use Rattle.machine.specs.AllowedExactly.{StepView, no-such-chunk, was-at-rest, steps-so}
-use Rattle.machine.proofs.AllowedExactly.{step-view, step-exactly}
-use Rattle.machine.specs.AllowedExactly.{JoinView, no-left, no-right, left-moves, right-moves, joins-so}
-use Rattle.machine.proofs.AllowedExactly.{join-view, join-exactly}
-use Rattle.machine.specs.GivenExactly.{LiveAtRest, CannotJoin, no-live-right, left-not-at-rest, right-not-at-rest}
-use Rattle.machine.proofs.GivenExactly.{step-no-chunk, step-at-rest}
-use Rattle.machine.specs.GivenExactly.{RunView, run-no-chunk-so, run-at-rest-so, runs_so}
-use Rattle.machine.proofs.GivenExactly.{run-view, run-no-chunk, run-at-rest, join-no-chunk, no-join-exactly}
+use Rattle.machine.specs.GivenExactly.{LiveAtRest, CannotJoin}
 use Rattle.machine.specs.GivenExactly.{Finished, StuckSo, ReportedSo}
-use Rattle.machine.specs.GivenExactly.{OutcomeView, unfinished-so, stuck-so, reported-so}
-use Rattle.machine.proofs.GivenExactly.{outcome-view, unfinished-exactly, stuck-exactly, report-exactly}
 use Rattle.machine.specs.Counts.{RunNamed}
-use Rattle.machine.proofs.Counts.{run-exactly}
-use Rattle.machine.specs.Answers.{outcome_answer}
 use Rattle.layout.specs.Layout.{decode}
 use Rattle.area.specs.Shape.{in_shape}
-use Rattle.start.specs.Start.{StartInput, start_conditions, start_answer, start-ready, starts-exactly}
-use Rattle.moving.specs.Calls.{called_answer, ran_answer, step_call, step_answer, run_call, run_answer, join_call, join_answer}
+use Rattle.start.specs.Start.{StartInput, start_conditions, start_answer}
+use Rattle.moving.specs.Calls.{step_answer, run_answer, join_answer}
 use Rattle.moving.specs.ReadCall.{read_answer}
-use Rattle.parse.specs.ParseCall.{then_start, parsed_answer, parse_outcome, parse_begun, parse_answer}
-use Rattle.report.specs.ReportCall.{report_outcome, report_answer, report-broken, report-in-shape}
-use Rattle.moving.specs.OnWords.{step-broken, step-in-shape, run-broken, run-in-shape, join-broken, join-in-shape}
+use Rattle.parse.specs.ParseCall.{parse_answer}
+use Rattle.report.specs.ReportCall.{report_answer}
 use Rattle.demands.specs.PublicCalls.{PublicCall, number-of, value-of, stuck-refusal, check-symbols, check-words, body_of, load, left-set, right-set}
 use Rattle.demands.specs.PublicCalls.{grammar-in-shape, in-shape, start, step, run, join, read_through, report, parse, entry-tokens}
-use Rattle.demands.specs.SameReport.{right-tokens}
-use Rattle.demands.specs.ParseDemand.{UncutReader, uncut-reader, parse-reads, uncut-finished}
+use Rattle.demands.specs.ParseDemand.{UncutReader}
 
 -- ---- lists of conditions
-
-symbols-given : (words : List ℕ) (answer : Answer) → (check_symbols words ≡ answer) ↔ Given words symbol_conditions answer
-unfolding check_symbols
-symbols-given words answer =
-    given-exactly words (finding (head-finds words) (λ h. finding (contents-finds words) (λ c. finding (symbols-find words) (λ s. ready)))) answer
-
-words-given : (words : List ℕ) (answer : Answer) → (check_words words ≡ answer) ↔ Given words word_conditions answer
-unfolding check_words
-words-given words answer = given-exactly words (words-ready words) answer
 
 abbrev pub lent_to_load : List ℕ → ℕ → LoadInput
 lent_to_load words room = record { words = words; room = room }
 
-pub load_given : (words : List ℕ) (room : ℕ) (answer : Answer) → (load_answer words room ≡ answer) ↔ Given (lent_to_load words room) load_conditions answer
-unfolding load_answer
-load_given words room answer =
-    given-exactly (lent_to_load words room)
-    (finding (head-finds words) (λ h. finding (contents-finds words) (λ c. finding (symbols-find words)
-    (λ s. finding (form-finds (grammar_of words)) (λ f. finding (twins-find (grammar_of words))
-    (λ t. finding (conflict-finds (in-range words h s)) (λ n. finding (room-finds (lent_to_load words room)) (λ m. ready)))))))) answer
-
 abbrev pub lent_to_set : List ℕ → ℕ → SetInput
 lent_to_set words k = record { words = words; number = k }
-
-checked-given : (words : List ℕ) (k : ℕ) (answer : Answer) → (set_checked words k ≡ answer) ↔ Given (lent_to_set words k) set_conditions answer
-unfolding set_checked
-checked-given words k answer =
-    given-exactly (lent_to_set words k)
-    (finding (head-finds words) (λ h. finding (contents-finds words) (λ c. finding (symbols-find words)
-    (λ s. finding (form-finds (grammar_of words)) (λ f. finding (twins-find (grammar_of words))
-    (λ t. finding (nonterminal-finds (lent_to_set words k)) (λ n. ready))))))) answer
 
 -- a set of the rules of g, or a refusal
 pub data SetGiven (words : List ℕ) (k : ℕ) (g : Grammar) : SetAnswer → Type 1 where
   set-refused : {refusal : Refusal} → Given (lent_to_set words k) set_conditions (Refused refusal) → SetGiven words k g (set.Refused refusal)
   set-0 : Given (lent_to_set words k) set_conditions Done → SetGiven words k g (set.Terminals (left_set g k) (left_size g k))
 
-module _ (words : List ℕ) (k : ℕ) (g : Grammar) where
-  set_found : SetGiven words k g (set_or_refusal (set_checked words k) g k)
-  set_found = go (set_checked words k) refl
-    where
-      go : (a : Answer) → set_checked words k ≡ a → SetGiven words k g (set_or_refusal a g k)
-      go Done e = set-0 ((checked-given words k Done).0 e)
-      go (Refused refusal) e = set-refused ((checked-given words k (Refused refusal)).0 e)
-
-  set_so : {answer : SetAnswer} → SetGiven words k g answer → set_or_refusal (set_checked words k) g k ≡ answer
-  set_so (set-0 h) = ap (λ a. set_or_refusal a g k) ((checked-given words k Done).1 h)
-  set_so (set-refused {refusal = refusal} h) = ap (λ a. set_or_refusal a g k) ((checked-given words k (Refused refusal)).1 h)
-
-  set_given : (answer : SetAnswer) → (set_or_refusal (set_checked words k) g k ≡ answer) ↔ SetGiven words k g answer
-  set_given answer = (λ e. rw e at set_found, set_so)
-
-left-given : (words : List ℕ) (k : ℕ) (answer : SetAnswer) → (left_set_answer words k ≡ answer) ↔ SetGiven words k (grammar_of words) answer
-unfolding left_set_answer
-left-given words k answer = set_given words k (grammar_of words) answer
-
-right-given : (words : List ℕ) (k : ℕ) (answer : SetAnswer) → (right_set_answer words k ≡ answer) ↔ SetGiven words k (mirrored (grammar_of words)) answer
-unfolding right_set_answer
-right-given words k answer = set_given words k (mirrored (grammar_of words)) answer
-
 abbrev pub lent_to_start : List ℕ → List ℕ → List ℕ → List ℕ → ℕ → StartInput
 lent_to_start words matrix tokens cuts room = record { words = words; matrix = matrix; tokens = tokens; cuts = cuts; room = room }
-
-pub start-given : (words matrix tokens cuts : List ℕ) (room : ℕ) (answer : Answer)
-    → (start_answer words matrix tokens cuts room ≡ answer) ↔ Given (lent_to_start words matrix tokens cuts room) start_conditions answer
-unfolding start_answer
-start-given words matrix tokens cuts room answer =
-    given-exactly (lent_to_start words matrix tokens cuts room) (start-ready (lent_to_start words matrix tokens cuts room)) answer
-
--- a row read through answers as a start with no cuts does
-pub read-given : (words matrix tokens : List ℕ) (room : ℕ) (answer : Answer)
-    → (read_answer words matrix tokens room ≡ answer) ↔ Given (lent_to_start words matrix tokens [] room) start_conditions answer
-unfolding read_answer
-read-given words matrix tokens room answer = start-given words matrix tokens [] room answer
 
 -- ---- calls on an area
 
@@ -187,122 +98,6 @@ module _ (words matrix area : List ℕ) where
     report-0 : in_shape words matrix area ≡ true → (entries : List (Reduction Span)) (moves : ℕ) → ReportedSo (decode area) entries moves
         → 3 * length entries ≤ room → ReportGiven room (reports.Report (length entries) moves)
 
-  -- in shape, a call is the machine's
-  module _ (c : ℕ) where
-    step-found : StepGiven c (step_answer words matrix area c)
-    unfolding step_answer
-    step-found = go (in_shape words matrix area) refl
-      where
-        of : in_shape words matrix area ≡ true → {x : Called Span} → StepView (table_of words matrix) c (decode area) x → StepGiven c (called_answer x)
-        of e (no-such-chunk h) = step-12 e h
-        of e (was-at-rest l r) = step-13 e (record { live = l; rests = r })
-        of e (steps-so m) = step-0 e m
-
-        go : (b : Bool) → in_shape words matrix area ≡ b → StepGiven c (called_answer (step_call words matrix area c))
-        go false e = rw (step-broken words matrix area c e) (step-15 e)
-        go true e = rw (step-in-shape words matrix area c e) (of e (step-view (table_of words matrix) c (decode area)))
-
-    step_so : {answer : Answer} → StepGiven c answer → step_answer words matrix area c ≡ answer
-    unfolding step_answer
-    step_so (step-15 e) = ap called_answer (step-broken words matrix area c e)
-    step_so (step-12 e h) = ap called_answer (step-in-shape words matrix area c e ∙ (step-no-chunk (table_of words matrix) c (decode area)).1 h)
-    step_so (step-13 e h) = ap called_answer (step-in-shape words matrix area c e ∙ (step-at-rest (table_of words matrix) c (decode area)).1 h)
-    step_so (step-0 e {s' = s'} m) = ap called_answer (step-in-shape words matrix area c e ∙ (step-exactly (table_of words matrix) c (decode area) s').0 m)
-
-    step_given : (answer : Answer) → (step_answer words matrix area c ≡ answer) ↔ StepGiven c answer
-    step_given answer = (λ e. rw e at step-found, step_so)
-
-    join-found : JoinGiven c (join_answer words matrix area c)
-    unfolding join_answer
-    join-found = go (in_shape words matrix area) refl
-      where
-        of : in_shape words matrix area ≡ true → {x : Called Span} → JoinView c (decode area) x → JoinGiven c (called_answer x)
-        of e (no-left h) = join-12 e h
-        of e (no-right l g) = join-14 e (no-live-right l g)
-        of e (left-moves l r) = join-14 e (left-not-at-rest l r)
-        of e (right-moves l n r) = join-14 e (right-not-at-rest l n r)
-        of e (joins-so m) = join-0 e m
-
-        go : (b : Bool) → in_shape words matrix area ≡ b → JoinGiven c (called_answer (join_call words matrix area c))
-        go false e = rw (join-broken words matrix area c e) (join-15 e)
-        go true e = rw (join-in-shape words matrix area c e) (of e (join-view c (decode area)))
-
-    join-so : {answer : Answer} → JoinGiven c answer → join_answer words matrix area c ≡ answer
-    unfolding join_answer
-    join-so (join-15 e) = ap called_answer (join-broken words matrix area c e)
-    join-so (join-12 e h) = ap called_answer (join-in-shape words matrix area c e ∙ (join-no-chunk c (decode area)).1 h)
-    join-so (join-14 e h) = ap called_answer (join-in-shape words matrix area c e ∙ (no-join-exactly c (decode area)).1 h)
-    join-so (join-0 e {s' = s'} m) = ap called_answer (join-in-shape words matrix area c e ∙ (join-exactly c (decode area) s').0 m)
-
-    join-given : (answer : Answer) → (join_answer words matrix area c ≡ answer) ↔ JoinGiven c answer
-    join-given answer = (λ e. rw e at join-found, join-so)
-
-  module _ (c budget : ℕ) where
-    run-found : RunGiven c budget (run_answer words matrix area c budget)
-    unfolding run_answer
-    run-found = go (in_shape words matrix area) refl
-      where
-        of : in_shape words matrix area ≡ true → {x : Ran Span} → States.run (table_of words matrix) c budget (decode area) ≡ x
-            → RunView (table_of words matrix) c budget (decode area) x → RunGiven c budget (ran_answer x)
-        of e q (run-no-chunk-so h) = run-12 e h
-        of e q (run-at-rest-so h) = run-13 e h
-        of e q (runs_so {j = j} {s' = s'} l h m) = run-0 e ((run-exactly (table_of words matrix) c budget (decode area) j s').0 q)
-
-        go : (b : Bool) → in_shape words matrix area ≡ b → RunGiven c budget (ran_answer (run_call words matrix area c budget))
-        go false e = rw (run-broken words matrix area c budget e) (run-15 e)
-        go true e = rw (run-in-shape words matrix area c budget e) (of e refl (run-view (table_of words matrix) c budget (decode area)))
-
-    run-so : {answer : RunAnswer} → RunGiven c budget answer → run_answer words matrix area c budget ≡ answer
-    unfolding run_answer
-    run-so (run-15 e) = ap ran_answer (run-broken words matrix area c budget e)
-    run-so (run-12 e h) = ap ran_answer (run-in-shape words matrix area c budget e ∙ (run-no-chunk (table_of words matrix) c budget (decode area)).1 h)
-    run-so (run-13 e h) = ap ran_answer (run-in-shape words matrix area c budget e ∙ (run-at-rest (table_of words matrix) c budget (decode area)).1 h)
-    run-so (run-0 e {j = j} {s' = s'} m) = ap ran_answer (run-in-shape words matrix area c budget e ∙ (run-exactly (table_of words matrix) c budget (decode area) j s').1 m)
-
-    run-given : (answer : RunAnswer) → (run_answer words matrix area c budget ≡ answer) ↔ RunGiven c budget answer
-    run-given answer = (λ e. rw e at run-found, run-so)
-
--- a report with room for it, and without
-with-room : (entries : List (Reduction Span)) (moves room : ℕ) → 3 * length entries ≤ room
-    → outcome_answer (reported entries moves) room ≡ reports.Report (length entries) moves
-with-room entries moves room h = rw (le-ltb room (3 * length entries) h, outcome_answer)
-
-without-room : (entries : List (Reduction Span)) (moves room : ℕ) → room < 3 * length entries
-    → outcome_answer (reported entries moves) room ≡ reports.Refused (NoRoom (3 * length entries))
-without-room entries moves room h = rw (lt-ltb room (3 * length entries) h, outcome_answer)
-
-module _ (words matrix area : List ℕ) (room : ℕ) where
-  report-found : ReportGiven words matrix area room (report_answer words matrix area room)
-  unfolding report_answer
-  report-found = go (in_shape words matrix area) refl
-    where
-      written : in_shape words matrix area ≡ true → (entries : List (Reduction Span)) (moves : ℕ) → ReportedSo (decode area) entries moves
-          → (b : Bool) → ltb room (3 * length entries) ≡ b → ReportGiven words matrix area room (outcome_answer (reported entries moves) room)
-      written e entries moves h true q = let l = ltb-true room (3 * length entries) q in rw (without-room entries moves room l) (report-11 e entries moves h l)
-      written e entries moves h false q = let l = ltb-false room (3 * length entries) q in rw (with-room entries moves room l) (report-0 e entries moves h l)
-
-      of : in_shape words matrix area ≡ true → {o : Outcome} → OutcomeView (decode area) o → ReportGiven words matrix area room (outcome_answer o room)
-      of e (unfinished-so q h) = rw q (report-16 e h)
-      of e (stuck-so why place q h) = rw q (report-stuck e why place h)
-      of e (reported-so entries moves q h) = rw q (written e entries moves h (ltb room (3 * length entries)) refl)
-
-      go : (b : Bool) → in_shape words matrix area ≡ b → ReportGiven words matrix area room (outcome_answer (report_outcome words matrix area) room)
-      go false e = rw (report-broken words matrix area e) (report-15 e)
-      go true e = rw (report-in-shape words matrix area e) (of e (outcome-view (decode area)))
-
-  report-so : {answer : ReportAnswer} → ReportGiven words matrix area room answer → report_answer words matrix area room ≡ answer
-  unfolding report_answer
-  report-so (report-15 e) = ap (λ o. outcome_answer o room) (report-broken words matrix area e)
-  report-so (report-16 e h) = ap (λ o. outcome_answer o room) (report-in-shape words matrix area e ∙ (unfinished-exactly (decode area)).1 h)
-  report-so (report-stuck e why place h) = ap (λ o. outcome_answer o room) (report-in-shape words matrix area e ∙ (stuck-exactly (decode area) why place).1 h)
-  report-so (report-11 e entries moves h l) =
-      ap (λ o. outcome_answer o room) (report-in-shape words matrix area e ∙ (report-exactly (decode area) entries moves).1 h) ∙ without-room entries moves room l
-  report-so (report-0 e entries moves h l) =
-      ap (λ o. outcome_answer o room) (report-in-shape words matrix area e ∙ (report-exactly (decode area) entries moves).1 h) ∙ with-room entries moves room l
-
-  report-given : (answer : ReportAnswer) → (report_answer words matrix area room ≡ answer) ↔ ReportGiven words matrix area room answer
-  report-given answer = (λ e. rw e at report-found, report-so)
-
 -- ---- the one-call parse
 
 -- 1 to 6, as load gives them with room for a matrix; 7 to 9 and 11 for the work area, as start gives them with the words' own matrix and no cuts;
@@ -321,88 +116,6 @@ pub data ParseGiven (words tokens : List ℕ) (room out_room : ℕ) : ReportAnsw
       → ReportedSo reader.last entries moves → out_room < 3 * length entries → ParseGiven words tokens room out_room (reports.Refused (NoRoom (3 * length entries)))
   parse-0 : Begins words tokens room → (reader : UncutReader words tokens) (entries : List (Reduction Span)) (moves : ℕ)
       → ReportedSo reader.last entries moves → 3 * length entries ≤ out_room → ParseGiven words tokens room out_room (reports.Report (length entries) moves)
-
-module _ (words tokens : List ℕ) (room : ℕ) where
-  pub parse-begins : Begins words tokens room → parse_begun words tokens room ≡ Done
-  unfolding parse_begun
-  parse-begins b = ap (λ a. then_start a words tokens room) b.loads ∙ b.starts
-
-  parse-reader : Begins words tokens room → UncutReader words tokens
-  parse-reader b =
-      uncut-reader ((accepted-exactly words 4096).0 b.loads).0
-      (right-tokens ((starts-exactly words (matrix_of (grammar_of words)) tokens [] room).0 b.starts))
-
-  parse-last : Begins words tokens room → (reader : UncutReader words tokens) → parse_outcome words tokens ≡ outcome reader.last
-  parse-last b reader =
-      parse-reads ((accepted-exactly words 4096).0 b.loads).0
-      (right-tokens ((starts-exactly words (matrix_of (grammar_of words)) tokens [] room).0 b.starts)) reader
-
-  parse-rests : Begins words tokens room → (reader : UncutReader words tokens) → outcome reader.last ≡ refused_row Unfinished → ⊥
-  parse-rests b reader =
-      uncut-finished ((accepted-exactly words 4096).0 b.loads).0
-      (right-tokens ((starts-exactly words (matrix_of (grammar_of words)) tokens [] room).0 b.starts)) reader
-
-  pub refused-by-load : {refusal : Refusal} → load_answer words 4096 ≡ Refused refusal → parse_begun words tokens room ≡ Refused refusal
-  unfolding parse_begun
-  refused-by-load e = ap (λ a. then_start a words tokens room) e
-
-  pub refused-by-start : {refusal : Refusal} → load_answer words 4096 ≡ Done → start_answer words (matrix_of (grammar_of words)) tokens [] room ≡ Refused refusal
-      → parse_begun words tokens room ≡ Refused refusal
-  unfolding parse_begun
-  refused-by-start e f = ap (λ a. then_start a words tokens room) e ∙ f
-
-  module _ (out_room : ℕ) where
-    parse-ends : Begins words tokens room → parse_answer words tokens room out_room ≡ outcome_answer (parse_outcome words tokens) out_room
-    unfolding parse_answer
-    parse-ends b = ap (λ a. parsed_answer a (parse_outcome words tokens) out_room) (parse-begins b)
-
-    pub parse-refused : {refusal : Refusal} → parse_begun words tokens room ≡ Refused refusal → parse_answer words tokens room out_room ≡ reports.Refused refusal
-    unfolding parse_answer
-    parse-refused e = ap (λ a. parsed_answer a (parse_outcome words tokens) out_room) e
-
-    parse-found : ParseGiven words tokens room out_room (parse_answer words tokens room out_room)
-    parse-found = by-load (load_answer words 4096) refl
-      where
-        written : Begins words tokens room → (reader : UncutReader words tokens) (entries : List (Reduction Span)) (moves : ℕ)
-            → ReportedSo reader.last entries moves → (b : Bool) → ltb out_room (3 * length entries) ≡ b
-            → ParseGiven words tokens room out_room (outcome_answer (reported entries moves) out_room)
-        written b reader entries moves h true q =
-            let l = ltb-true out_room (3 * length entries) q in rw (without-room entries moves out_room l) (parse-11 b reader entries moves h l)
-        written b reader entries moves h false q =
-            let l = ltb-false out_room (3 * length entries) q in rw (with-room entries moves out_room l) (parse-0 b reader entries moves h l)
-
-        of : Begins words tokens room → (reader : UncutReader words tokens) → {o : Outcome} → (o ≡ refused_row Unfinished → ⊥) → OutcomeView reader.last o
-            → ParseGiven words tokens room out_room (outcome_answer o out_room)
-        of b reader never (unfinished-so q h) = absurd (never q)
-        of b reader never (stuck-so why place q h) = rw q (parse-stuck b reader why place h)
-        of b reader never (reported-so entries moves q h) = rw q (written b reader entries moves h (ltb out_room (3 * length entries)) refl)
-
-        by-start : load_answer words 4096 ≡ Done → (a : Answer) → start_answer words (matrix_of (grammar_of words)) tokens [] room ≡ a
-            → ParseGiven words tokens room out_room (parse_answer words tokens room out_room)
-        by-start e (Refused refusal) f = rw (parse-refused (refused-by-start e f)) (parse-row e f)
-        by-start e Done f =
-            let b : Begins words tokens room = record { loads = e; starts = f } in
-            let reader = parse-reader b in
-            rw (parse-ends b, parse-last b reader) (of b reader (parse-rests b reader) (outcome-view reader.last))
-
-        by-load : (a : Answer) → load_answer words 4096 ≡ a → ParseGiven words tokens room out_room (parse_answer words tokens room out_room)
-        by-load (Refused refusal) e = rw (parse-refused (refused-by-load e)) (parse-words e)
-        by-load Done e = by-start e (start_answer words (matrix_of (grammar_of words)) tokens [] room) refl
-
-    parse-so : {answer : ReportAnswer} → ParseGiven words tokens room out_room answer → parse_answer words tokens room out_room ≡ answer
-    parse-so (parse-words e) = parse-refused (refused-by-load e)
-    parse-so (parse-row e f) = parse-refused (refused-by-start e f)
-    parse-so (parse-stuck b reader why place h) =
-        parse-ends b ∙ ap (λ o. outcome_answer o out_room) (parse-last b reader ∙ (stuck-exactly reader.last why place).1 h)
-    parse-so (parse-11 b reader entries moves h l) =
-        parse-ends b ∙ ap (λ o. outcome_answer o out_room) (parse-last b reader ∙ (report-exactly reader.last entries moves).1 h)
-        ∙ without-room entries moves out_room l
-    parse-so (parse-0 b reader entries moves h l) =
-        parse-ends b ∙ ap (λ o. outcome_answer o out_room) (parse-last b reader ∙ (report-exactly reader.last entries moves).1 h)
-        ∙ with-room entries moves out_room l
-
-    parse-given : (answer : ReportAnswer) → (parse_answer words tokens room out_room ≡ answer) ↔ ParseGiven words tokens room out_room answer
-    parse-given answer = (λ e. rw e at parse-found, parse-so)
 
 -- ---- any call
 
@@ -431,24 +144,3 @@ GivenFor (report words matrix area out) = (answer : ReportAnswer)
 GivenFor (parse words tokens area out) = (answer : ReportAnswer)
     → (parse_answer words tokens (length area) (length out) ≡ answer) ↔ ParseGiven words tokens (length area) (length out) answer
 GivenFor (entry-tokens entries e tokens place) = Unit {1}
-
-pub given-for : (call : PublicCall) → GivenFor call
-given-for (number-of refusal) = tt
-given-for (value-of refusal) = tt
-given-for (stuck-refusal status place) = tt
-given-for (check-symbols words) = symbols-given words
-given-for (check-words words) = words-given words
-given-for (body_of words r) = tt
-given-for (load words bytes) = load_given words (length bytes)
-given-for (left-set words k) = left-given words k
-given-for (right-set words k) = right-given words k
-given-for (grammar-in-shape words matrix) = tt
-given-for (in-shape words matrix area) = tt
-given-for (start words matrix tokens cuts area) = start-given words matrix tokens cuts (length area)
-given-for (step words matrix area c) = step_given words matrix area c
-given-for (run words matrix area c budget) = run-given words matrix area c budget
-given-for (join words matrix area c) = join-given words matrix area c
-given-for (read_through words matrix tokens area) = read-given words matrix tokens (length area)
-given-for (report words matrix area out) = report-given words matrix area (length out)
-given-for (parse words tokens area out) = parse-given words tokens (length area) (length out)
-given-for (entry-tokens entries e tokens place) = tt

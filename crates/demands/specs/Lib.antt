@@ -5,12 +5,8 @@ pub mod Demands
 pub mod Finishing
 pub mod GivenDemand
 pub mod MoveDemand
-pub mod OnWords
-pub mod OwnMatrix
 pub mod ParseDemand
-pub mod Proved
 pub mod PublicCalls
 pub mod Reached
-pub mod SameReport
 pub mod Standing
 pub mod Starred

@@ -28,10 +28,13 @@ use Rattle.start.specs.StartKept.{no_end}
 use Rattle.parse.specs.ParseCall.{parse_outcome, parse_answer, parse_out}
 use Rattle.report.specs.ReportCall.{report_outcome, report_answer, report_out}
 use Rattle.demands.specs.Calls.{Call, area_after, moves_made, OfLoad, AllOfLoad, Begun}
-use Rattle.demands.specs.OwnMatrix.{own_table, own-end-mark, accepted}
-use Rattle.demands.specs.Standing.{startable}
-use Rattle.demands.specs.Reached.{there, report-there, report-number}
-use Rattle.demands.specs.ParseDemand.{RightTokens, parse-answers, parse-writes, uncut-reader, parse-reads, uncut-finished}
+use Rattle.machine.specs.TableOf.{own_table}
+use Rattle.machine.proofs.TableOf.{own-end-mark}
+use Rattle.demands.proofs.OwnMatrix.{accepted}
+use Rattle.demands.proofs.Standing.{startable}
+use Rattle.demands.proofs.Reached.{there, report-there, report-number}
+use Rattle.demands.specs.ParseDemand.{RightTokens}
+use Rattle.demands.proofs.ParseDemand.{parse-answers, parse-writes, uncut-reader, parse-reads, uncut-finished}
 
 -- the tokens of a row that starts
 pub right-tokens : {input : StartInput} → Startable input → RightTokens input.words input.tokens
@@ -75,8 +78,7 @@ counts (reported l m) room {entries} {count} e = go (ltb room (3 * length l)) re
         let z : m ≡ count = cc in
         (l, ap (λ k. reported l k) z)
 
-module _ {words bytes tokens cuts area₀ : List ℕ} (begun : Begun words bytes tokens cuts area₀) {calls : List Call} (own : AllOfLoad words bytes calls)
-    (matrix : List ℕ) (of-load : OfLoad words bytes matrix) where
+module _ {words bytes tokens cuts area₀ : List ℕ} (begun : Begun words bytes tokens cuts area₀) {calls : List Call} (own : AllOfLoad words bytes calls) (matrix : List ℕ) (of-load : OfLoad words bytes matrix) where
   abbrev area : List ℕ
   area = area_after words area₀ calls
 

@@ -17,11 +17,9 @@ use Rattle.language.proofs.Loads.{accepted-exactly}
 use Rattle.machine.specs.Spans.{span_of}
 use Rattle.machine.specs.TableOf.{relation_at, table_of}
 use Rattle.machine.proofs.TableOf.{relation-of-words}
-pub use Rattle.machine.specs.TableOf.{own_table}
-pub use Rattle.machine.proofs.TableOf.{own-end-mark, own-laws}
+use Rattle.machine.specs.TableOf.{own_table}
 use Rattle.matrix.specs.GrammarShape.{grammar_in_shape}
 use Rattle.matrix.specs.EndMarkOfShape.{matrix-in-shape}
-pub use Rattle.matrix.specs.EndMarkOfShape.{own-shape}
 use Rattle.demands.specs.Calls.{OfLoad}
 
 module _ {words : List ℕ} (accepted : Accepted words) where

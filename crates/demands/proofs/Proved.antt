@@ -17,16 +17,18 @@ use Rattle.machine.specs.Counts.{RunNamed}
 use Rattle.results.specs.ReadThrough.{read-once}
 use Rattle.layout.specs.Layout.{decode, beyond_in}
 use Rattle.start.specs.Start.{bad-state-given}
-use Rattle.demands.specs.GivenDemand.{given-for}
-use Rattle.demands.specs.AnswersDemand.{number-listed, lent-kept, beyond-kept, parse-area-left}
+use Rattle.demands.proofs.GivenDemand.{given-for}
+use Rattle.demands.proofs.AnswersDemand.{number-listed, lent-kept, beyond-kept, parse-area-left}
 use Rattle.demands.specs.Calls.{area_after}
-use Rattle.demands.specs.OwnMatrix.{own_table, accepted, shape_is}
-use Rattle.demands.specs.Standing.{standing-after}
-use Rattle.demands.specs.ParseDemand.{uncut-reader, parse-accepts-exactly, parse-reports, parse-refuses, one-tree-only}
-use Rattle.demands.specs.MoveDemand.{StepLeaves, RunLeaves, JoinLeaves, step-demand, run-demand, join-demand, lent-state}
-use Rattle.demands.specs.Reached.{each_right, report-never-15, moves-counted, moves-few, in-shape-there, low-there}
-use Rattle.demands.specs.SameReport.{same-but-moves, same-report, report-counts}
-use Rattle.demands.specs.Finishing.{some-move, finished-stays, lists-end, goes-on-finishes, can-finish}
+use Rattle.machine.specs.TableOf.{own_table}
+use Rattle.demands.proofs.OwnMatrix.{accepted, shape_is}
+use Rattle.demands.proofs.Standing.{standing-after}
+use Rattle.demands.proofs.ParseDemand.{uncut-reader, parse-accepts-exactly, parse-reports, parse-refuses, one-tree-only}
+use Rattle.demands.specs.MoveDemand.{StepLeaves, RunLeaves, JoinLeaves}
+use Rattle.demands.proofs.MoveDemand.{step-demand, run-demand, join-demand, lent-state}
+use Rattle.demands.proofs.Reached.{each_right, report-never-15, moves-counted, moves-few, in-shape-there, low-there}
+use Rattle.demands.proofs.SameReport.{same-but-moves, same-report, report-counts}
+use Rattle.demands.proofs.Finishing.{some-move, finished-stays, lists-end, goes-on-finishes, can-finish}
 use Rattle.demands.specs.ContractsMet.{contracts, promise-kept, one-answer-only}
 use Rattle.demands.specs.Demands.{Demand1Contracts, Demand1, Demand1Parse, Demand2Parse, Demand2Moves, Demand2Reached}
 use Rattle.demands.specs.Demands.{Demand3, Demand3Finishes, StartNever15, tokens_in}

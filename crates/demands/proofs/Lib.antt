@@ -1,0 +1,12 @@
+pub mod AnswersDemand
+pub mod Finishing
+pub mod GivenDemand
+pub mod MoveDemand
+pub mod OnWords
+pub mod OwnMatrix
+pub mod ParseDemand
+pub mod Proved
+pub mod Reached
+pub mod SameReport
+pub mod Standing
+pub mod Starred
