@@ -52,7 +52,6 @@ use Rattle.parse.specs.ParseCall.{parsed_answer, parsed_area, parsed_out, parse_
 use Rattle.report.specs.ReportCall.{report_outcome, report_answer, report_out}
 use Rattle.matrix.specs.EndMarkOfShape.{own-shape}
 use Rattle.moving.specs.OnWords.{step-broken, step-in-shape, run-broken, run-in-shape, join-broken, join-in-shape}
-use Rattle.demands.proofs.Reached.{at-17-20}
 use Rattle.demands.specs.PublicCalls.{PublicCall, number-of, value-of, stuck-refusal, check-symbols, check-words, body_of, load, left-set, right-set, grammar-in-shape}
 use Rattle.demands.specs.PublicCalls.{in-shape, start, step, run, join, read_through, report, parse, entry-tokens}
 use Rattle.demands.specs.PublicCalls.{number_for, numbers_for, words_of, Written, written}
@@ -61,8 +60,9 @@ use Rattle.demands.specs.GivenDemand.{JoinGiven, join-15, join-12, join-14, join
 use Rattle.demands.specs.GivenDemand.{ParseGiven, parse-words, parse-row, parse-stuck, parse-11, parse-0}
 use Rattle.demands.specs.GivenDemand.{lent_to_load, lent_to_set, lent_to_start}
 use Rattle.demands.proofs.GivenDemand.{load_given, start-given}
-use Rattle.demands.proofs.GivenDemand.{parse-begins, parse-refused, refused-by-load, refused-by-start, given-for}
-use Rattle.demands.specs.AnswersDemand.{ParseAreaLeft}
+use Rattle.demands.specs.GivenDemand.{refused-by-load, refused-by-start}
+use Rattle.demands.proofs.GivenDemand.{parse-begins, parse-refused, given-for}
+use Rattle.demands.specs.AnswersDemand.{ParseAreaLeft, area-stays, refused-first}
 
 -- ---- the numbers
 
@@ -516,26 +516,14 @@ beyond-kept (entry-tokens entries e tokens place) m = no_run m
 -- ---- the one-call parse's work area
 
 module _ (words tokens area out : List ℕ) where
-  area-stays : {refusal : Refusal} → parse_begun words tokens (length area) ≡ Refused refusal → parse_area words tokens area ≡ area
-  unfolding parse_area
-  area-stays e = ap (λ a. parsed_area a (length tokens) area) e
-
   area-used : parse_begun words tokens (length area) ≡ Done → parse_area words tokens area ≡ zeros (need (length tokens) 1) ++ drop (need (length tokens) 1) area
   unfolding parse_area
   area-used e = ap (λ a. parsed_area a (length tokens) area) e
 
-  refused-first : {answer : ReportAnswer} → ParseGiven words tokens (length area) (length out) answer → 1 ≤ report_number answer → report_number answer ≤ 9
-      → parse_area words tokens area ≡ area
-  refused-first (parse-words e) low high = area-stays (refused-by-load words tokens (length area) e)
-  refused-first (parse-row e f) low high = area-stays (refused-by-start words tokens (length area) e f)
-  refused-first (parse-stuck b reader why place h) low high = absurd (omega (arith, (at-17-20 why place).0))
-  refused-first (parse-11 b reader entries moves h l) low high = absurd (omega arith)
-  refused-first (parse-0 b reader entries moves h l) low high = absurd (omega arith)
-
   refused-short : {a : Answer} → parse_begun words tokens (length area) ≡ a → BegunView (length tokens) (length area) a → length area < need (length tokens) 1
       → parse_area words tokens area ≡ area
-  refused-short e (refused-low k q low high m) h = area-stays e
-  refused-short e (area-short l) h = area-stays e
+  refused-short e (refused-low k q low high m) h = area-stays words tokens area out e
+  refused-short e (area-short l) h = area-stays words tokens area out e
   refused-short e (begun l) h = absurd (omega arith)
 
   used : {a : Answer} → parse_begun words tokens (length area) ≡ a → BegunView (length tokens) (length area) a
@@ -548,7 +536,7 @@ module _ (words tokens area out : List ℕ) where
 
   pub parse-area-left : ParseAreaLeft words tokens area out
   parse-area-left = record {
-    after-1-to-9 = refused-first ((given-for (parse words tokens area out) (parse_answer words tokens (length area) (length out))).0 refl);
+    after-1-to-9 = refused-first words tokens area out ((given-for (parse words tokens area out) (parse_answer words tokens (length area) (length out))).0 refl);
     too_short = refused-short refl (begun-view words tokens (length area));
     once-used = used refl (begun-view words tokens (length area));
   }

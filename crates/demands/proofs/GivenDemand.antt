@@ -61,11 +61,12 @@ use Rattle.moving.specs.OnWords.{step-broken, step-in-shape, run-broken, run-in-
 use Rattle.demands.specs.PublicCalls.{PublicCall, number-of, value-of, stuck-refusal, check-symbols, check-words, body_of, load, left-set, right-set}
 use Rattle.demands.specs.PublicCalls.{grammar-in-shape, in-shape, start, step, run, join, read_through, report, parse, entry-tokens}
 use Rattle.demands.proofs.SameReport.{right-tokens}
-use Rattle.demands.specs.ParseDemand.{UncutReader}
-use Rattle.demands.proofs.ParseDemand.{uncut-reader, parse-reads, uncut-finished}
+use Rattle.demands.specs.ParseDemand.{UncutReader, parse-reads}
+use Rattle.demands.proofs.ParseDemand.{uncut-reader, uncut-finished}
 use Rattle.demands.specs.GivenDemand.{Begins, GivenFor, JoinGiven, ParseGiven, ReportGiven, RunGiven, SetGiven, StepGiven, join-0, join-12, join-14, join-15}
-use Rattle.demands.specs.GivenDemand.{lent_to_load, lent_to_set, lent_to_start, parse-0, parse-11, parse-row, parse-stuck, parse-words, report-0, report-11, report-15, report-16}
-use Rattle.demands.specs.GivenDemand.{report-stuck, run-0, run-12, run-13, run-15, set-0, set-refused, step-0, step-12, step-13, step-15}
+use Rattle.demands.specs.GivenDemand.{lent_to_load, lent_to_set, lent_to_start, parse-0, parse-11, parse-row, parse-stuck, parse-words, refused-by-load, refused-by-start, report-0, report-11}
+use Rattle.demands.specs.GivenDemand.{report-15, report-16, report-stuck, run-0, run-12, run-13, run-15, set-0, set-refused, step-0, step-12, step-13}
+use Rattle.demands.specs.GivenDemand.{step-15}
 
 -- ---- lists of conditions
 
@@ -270,15 +271,6 @@ module _ (words tokens : List ℕ) (room : ℕ) where
       uncut-finished ((accepted-exactly words 4096).0 b.loads).0
       (right-tokens ((starts-exactly words (matrix_of (grammar_of words)) tokens [] room).0 b.starts)) reader
 
-  pub refused-by-load : {refusal : Refusal} → load_answer words 4096 ≡ Refused refusal → parse_begun words tokens room ≡ Refused refusal
-  unfolding parse_begun
-  refused-by-load e = ap (λ a. then_start a words tokens room) e
-
-  pub refused-by-start : {refusal : Refusal} → load_answer words 4096 ≡ Done → start_answer words (matrix_of (grammar_of words)) tokens [] room ≡ Refused refusal
-      → parse_begun words tokens room ≡ Refused refusal
-  unfolding parse_begun
-  refused-by-start e f = ap (λ a. then_start a words tokens room) e ∙ f
-
   module _ (out_room : ℕ) where
     parse-ends : Begins words tokens room → parse_answer words tokens room out_room ≡ outcome_answer (parse_outcome words tokens) out_room
     unfolding parse_answer
@@ -307,19 +299,19 @@ module _ (words tokens : List ℕ) (room : ℕ) where
 
         by-start : load_answer words 4096 ≡ Done → (a : Answer) → start_answer words (matrix_of (grammar_of words)) tokens [] room ≡ a
             → ParseGiven words tokens room out_room (parse_answer words tokens room out_room)
-        by-start e (Refused refusal) f = rw (parse-refused (refused-by-start e f)) (parse-row e f)
+        by-start e (Refused refusal) f = rw (parse-refused (refused-by-start words tokens room e f)) (parse-row e f)
         by-start e Done f =
             let b : Begins words tokens room = record { loads = e; starts = f } in
             let reader = parse-reader b in
             rw (parse-ends b, parse-last b reader) (of b reader (parse-rests b reader) (outcome-view reader.last))
 
         by-load : (a : Answer) → load_answer words 4096 ≡ a → ParseGiven words tokens room out_room (parse_answer words tokens room out_room)
-        by-load (Refused refusal) e = rw (parse-refused (refused-by-load e)) (parse-words e)
+        by-load (Refused refusal) e = rw (parse-refused (refused-by-load words tokens room e)) (parse-words e)
         by-load Done e = by-start e (start_answer words (matrix_of (grammar_of words)) tokens [] room) refl
 
     parse-so : {answer : ReportAnswer} → ParseGiven words tokens room out_room answer → parse_answer words tokens room out_room ≡ answer
-    parse-so (parse-words e) = parse-refused (refused-by-load e)
-    parse-so (parse-row e f) = parse-refused (refused-by-start e f)
+    parse-so (parse-words e) = parse-refused (refused-by-load words tokens room e)
+    parse-so (parse-row e f) = parse-refused (refused-by-start words tokens room e f)
     parse-so (parse-stuck b reader why place h) =
         parse-ends b ∙ ap (λ o. outcome_answer o out_room) (parse-last b reader ∙ (stuck-exactly reader.last why place).1 h)
     parse-so (parse-11 b reader entries moves h l) =

@@ -6,7 +6,7 @@ use Rattle.refusals.specs.declared.Refusal.{Refusal}
 use Rattle.refusals.specs.declared.Refusal.TheVariants.{Unfinished}
 use Rattle.refusals.specs.Refusals.{number_of, report_number}
 use Rattle.language.specs.Trees.{Span, Reduction}
-use Rattle.machine.specs.Moves.{Stuck, no_relation, no_rule, not_axiom, side_by_side}
+use Rattle.machine.specs.Moves.{Stuck}
 use Rattle.machine.specs.States.{State, Outcome, refused_row, reported, refusal_of, outcome}
 use Rattle.machine.specs.Answers.{outcome_answer}
 use Rattle.results.specs.Bounded.{most_moves, bounded}
@@ -25,13 +25,7 @@ use Rattle.moving.specs.OnWords.{stands}
 use Rattle.demands.proofs.OnWords.{report-is}
 use Rattle.demands.specs.Standing.{Standing, CallView, refused-so, moved-so}
 use Rattle.demands.proofs.Standing.{startable, standing-begun, standing-safe, standing-view, standing-call, standing-after}
-use Rattle.demands.specs.Reached.{EachRight, OutcomeNumber, and_right, no_more, number-0, number-11, number-16, number-stuck}
-
-pub at-17-20 : (why : Stuck) (place : ℕ) → (17 ≤ number_of (refusal_of why place)) × (number_of (refusal_of why place) ≤ 20)
-at-17-20 no_relation place = (omega arith, omega arith)
-at-17-20 no_rule place = (omega arith, omega arith)
-at-17-20 not_axiom place = (omega arith, omega arith)
-at-17-20 side_by_side place = (omega arith, omega arith)
+use Rattle.demands.specs.Reached.{EachRight, OutcomeNumber, and_right, at-17-20, no_more, number-0, number-11, number-16, number-stuck}
 
 pub outcome-number : (s : State Span) (room : ℕ) → OutcomeNumber (outcome s) room
 outcome-number s room = go (outcome s) refl

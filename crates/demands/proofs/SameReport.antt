@@ -33,8 +33,8 @@ use Rattle.machine.proofs.TableOf.{own-end-mark}
 use Rattle.demands.proofs.OwnMatrix.{accepted}
 use Rattle.demands.proofs.Standing.{startable}
 use Rattle.demands.proofs.Reached.{there, report-there, report-number}
-use Rattle.demands.specs.ParseDemand.{RightTokens}
-use Rattle.demands.proofs.ParseDemand.{parse-answers, parse-writes, uncut-reader, parse-reads, uncut-finished}
+use Rattle.demands.specs.ParseDemand.{RightTokens, parse-answers, parse-writes, parse-reads}
+use Rattle.demands.proofs.ParseDemand.{uncut-reader, uncut-finished}
 
 -- the tokens of a row that starts
 pub right-tokens : {input : StartInput} → Startable input → RightTokens input.words input.tokens

@@ -5,12 +5,21 @@
 --
 -- Main definition: ParseAreaLeft. Main statements: number-listed, lent-kept, beyond-kept, parse-area-left.
 use Rattle.std.specs.Prelude.{◌≡◌, ◌⊎◌, ℕ, ◌≤◌, ◌<◌, length}
+use Rattle.std.proofs.Math.Path.{ap}
+use Rattle.std.proofs.Common.{arith}
 use mathlib.Core.List.{List, ◌++◌}
 use Rattle.std.proofs.Math.ListN.{drop}
+use Rattle.refusals.specs.declared.Refusal.{Refusal}
+use Rattle.refusals.specs.declared.Answer.TheVariants.{Refused}
+use Rattle.refusals.specs.declared.ReportAnswer.{ReportAnswer}
+use Rattle.refusals.specs.Refusals.{report_number}
 use Rattle.layout.specs.Layout.{need, zeros}
-use Rattle.parse.specs.ParseCall.{parse_area}
+use Rattle.parse.specs.ParseCall.{parsed_area, parse_begun, parse_area}
+use Rattle.demands.specs.Reached.{at-17-20}
 use Rattle.demands.specs.PublicCalls.{parse}
 use Rattle.demands.specs.PublicCalls.{number_for}
+use Rattle.demands.specs.GivenDemand.{ParseGiven, parse-words, parse-row, parse-stuck, parse-11, parse-0}
+use Rattle.demands.specs.GivenDemand.{refused-by-load, refused-by-start}
 
 -- ---- the numbers
 
@@ -26,3 +35,16 @@ pub record ParseAreaLeft (words tokens area out : List ℕ) : Type 0 where
   pub too_short : length area < need (length tokens) 1 → parse_area words tokens area ≡ area
   pub once-used : (number_for (parse words tokens area out) ≡ 0) ⊎ (9 < number_for (parse words tokens area out)) → need (length tokens) 1 ≤ length area
       → parse_area words tokens area ≡ zeros (need (length tokens) 1) ++ drop (need (length tokens) 1) area
+
+module _ (words tokens area out : List ℕ) where
+  pub area-stays : {refusal : Refusal} → parse_begun words tokens (length area) ≡ Refused refusal → parse_area words tokens area ≡ area
+  unfolding parse_area
+  area-stays e = ap (λ a. parsed_area a (length tokens) area) e
+
+  pub refused-first : {answer : ReportAnswer} → ParseGiven words tokens (length area) (length out) answer → 1 ≤ report_number answer → report_number answer ≤ 9
+      → parse_area words tokens area ≡ area
+  refused-first (parse-words e) low high = area-stays (refused-by-load words tokens (length area) e)
+  refused-first (parse-row e f) low high = area-stays (refused-by-start words tokens (length area) e f)
+  refused-first (parse-stuck b reader why place h) low high = absurd (omega (arith, (at-17-20 why place).0))
+  refused-first (parse-11 b reader entries moves h l) low high = absurd (omega arith)
+  refused-first (parse-0 b reader entries moves h l) low high = absurd (omega arith)

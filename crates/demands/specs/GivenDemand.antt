@@ -6,6 +6,8 @@
 --
 -- Main definitions: SetGiven, StepGiven, RunGiven, JoinGiven, ReportGiven, ParseGiven; GivenFor (of any call). Main statement: given-for.
 use Rattle.std.specs.Prelude.{◌≡◌, ◌↔◌, ℕ, ◌*◌, ◌≤◌, ◌<◌}
+use Rattle.std.proofs.Math.Path.{ap}
+use Rattle.std.proofs.Common.{◌∙◌}
 use Rattle.std.proofs.Math.Bool.{true, false}
 use mathlib.Core.List.{List, []}
 use Rattle.std.proofs.Math.ListN.{length}
@@ -40,7 +42,7 @@ use Rattle.area.specs.Shape.{in_shape}
 use Rattle.start.specs.Start.{StartInput, start_conditions, start_answer}
 use Rattle.moving.specs.Calls.{step_answer, run_answer, join_answer}
 use Rattle.moving.specs.ReadCall.{read_answer}
-use Rattle.parse.specs.ParseCall.{parse_answer}
+use Rattle.parse.specs.ParseCall.{then_start, parse_begun, parse_answer}
 use Rattle.report.specs.ReportCall.{report_answer}
 use Rattle.demands.specs.PublicCalls.{PublicCall, number-of, value-of, stuck-refusal, check-symbols, check-words, body_of, load, left-set, right-set}
 use Rattle.demands.specs.PublicCalls.{grammar-in-shape, in-shape, start, step, run, join, read_through, report, parse, entry-tokens}
@@ -116,6 +118,16 @@ pub data ParseGiven (words tokens : List ℕ) (room out_room : ℕ) : ReportAnsw
       → ReportedSo reader.last entries moves → out_room < 3 * length entries → ParseGiven words tokens room out_room (reports.Refused (NoRoom (3 * length entries)))
   parse-0 : Begins words tokens room → (reader : UncutReader words tokens) (entries : List (Reduction Span)) (moves : ℕ)
       → ReportedSo reader.last entries moves → 3 * length entries ≤ out_room → ParseGiven words tokens room out_room (reports.Report (length entries) moves)
+
+module _ (words tokens : List ℕ) (room : ℕ) where
+  pub refused-by-load : {refusal : Refusal} → load_answer words 4096 ≡ Refused refusal → parse_begun words tokens room ≡ Refused refusal
+  unfolding parse_begun
+  refused-by-load e = ap (λ a. then_start a words tokens room) e
+
+  pub refused-by-start : {refusal : Refusal} → load_answer words 4096 ≡ Done → start_answer words (matrix_of (grammar_of words)) tokens [] room ≡ Refused refusal
+      → parse_begun words tokens room ≡ Refused refusal
+  unfolding parse_begun
+  refused-by-start e f = ap (λ a. then_start a words tokens room) e ∙ f
 
 -- ---- any call
 

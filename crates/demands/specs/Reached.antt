@@ -8,9 +8,11 @@
 -- Main definition: EachRight. Main statements: each_right, never-15, refused-changes-nothing, report-never-15, moves-counted, moves-few;
 -- in-shape-there, low-there.
 use Rattle.std.specs.Prelude.{◌≡◌, List, [], ◌∷◌, ℕ, ◌≤◌}
+use Rattle.std.proofs.Common.{arith}
 use Rattle.refusals.specs.declared.Refusal.TheVariants.{Unfinished}
-use Rattle.refusals.specs.Refusals.{report_number}
-use Rattle.machine.specs.States.{Outcome, refused_row}
+use Rattle.refusals.specs.Refusals.{number_of, report_number}
+use Rattle.machine.specs.Moves.{Stuck, no_relation, no_rule, not_axiom, side_by_side}
+use Rattle.machine.specs.States.{Outcome, refused_row, refusal_of}
 use Rattle.machine.specs.Answers.{outcome_answer}
 use Rattle.demands.specs.Calls.{Call, call_number, call_area}
 
@@ -20,6 +22,12 @@ pub data OutcomeNumber (o : Outcome) (room : ℕ) : Type 0 where
   number-stuck : 17 ≤ report_number (outcome_answer o room) → report_number (outcome_answer o room) ≤ 20 → OutcomeNumber o room
   number-11 : report_number (outcome_answer o room) ≡ 11 → OutcomeNumber o room
   number-0 : report_number (outcome_answer o room) ≡ 0 → OutcomeNumber o room
+
+pub at-17-20 : (why : Stuck) (place : ℕ) → (17 ≤ number_of (refusal_of why place)) × (number_of (refusal_of why place) ≤ 20)
+at-17-20 no_relation place = (omega arith, omega arith)
+at-17-20 no_rule place = (omega arith, omega arith)
+at-17-20 not_axiom place = (omega arith, omega arith)
+at-17-20 side_by_side place = (omega arith, omega arith)
 
 -- each call of a list: it does not answer 15, and where it is refused the area stays as it is
 pub data EachRight (words : List ℕ) : List ℕ → List Call → Type 0 where
