@@ -75,7 +75,7 @@ ORDER = ["refusals", "language", "laws", "machine", "results", "words", "table",
 HEAD = re.compile(r"^( *)(?:pub +)?(abbrev|unfoldable|data|record|module)\b(?: +pub)? +([^\s{]\S*)")
 THEOREM = re.compile(r"^( *)pub +([^\s:]+) *:")
 USE = re.compile(r"^(pub )?use +(Rattle\.(?!std\.)\S+?)(?:\.\{(.*)\})?(?: +as +(\S+))?;?$")
-OUTSIDE = re.compile(r"^use +((?:Rattle\.std\.|mathlib\.)\S+?)\.\{(.*)\};?$")
+OUTSIDE = re.compile(r"^use +(?!Rattle\.(?!std\.))(\S+?)\.\{(.*)\};?$")
 WORD = re.compile(r"[^\s(){}\[\],;|«»⌜⌝]+")
 
 
@@ -690,6 +690,18 @@ def why(name, files):
             print(" <- ".join(chain))
 
 
+def exported(crate):
+    """The heads and contracts of a crate's functions for C: name, parameters, answer and clauses, up to the body."""
+    text = open(os.path.join(CRATES, crate, "src", "lib.rt"), encoding="utf-8").read()
+    return dict(re.findall(r'(?ms)^#\[unsafe\(no_mangle\)\]\npub extern "C" fn (\w+)(.*?)^\{$', text))
+
+
+def exports_differ():
+    """Functions for C of grugalash and of grugalash_c, the static library over it, that are not the same in both."""
+    library, archive = exported("grugalash"), exported("grugalash_c")
+    return sorted(name for name in set(library) | set(archive) if library.get(name) != archive.get(name)), len(archive)
+
+
 def filled(page, parts):
     """The page with each part between its markers; and whether that changes it."""
     old = page
@@ -714,7 +726,9 @@ def check(page_fine, words):
     for key in sorted(set(rows) ^ set(edits)):
         fine = False
         print("docs/EDITS.md: " + "/".join(key) + (" is not listed" if key in edits else " is no edit"))
-    return fine
+    differ, count = exports_differ()
+    print("grugalash_c: " + ("differs from grugalash: " + ", ".join(differ) if differ else f"{count} functions with the contracts of grugalash"))
+    return fine and not differ
 
 
 def main():
