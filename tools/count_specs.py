@@ -40,7 +40,7 @@ CONTRACTS = [
 PUBLIC = re.compile(r'^pub (?:extern "C" )?fn (\w+)')
 # the crates whose theorems stand in proofs/, so that an edit of a definition makes a theorem fail and not a file of specs. In other
 # crates the files proofs/*.antt are lemmas of the proofs of functions
-PROOFS = ["language", "machine", "text"]
+PROOFS = ["language", "machine", "text", "demands"]
 # the final statements: a file of specs, and the names in it; None for every public theorem of the file
 STATEMENTS = [("demands", "Proved", None), ("demands", "Starred", ["starred"]), ("text", "TextFed", ["text-fed", "pieces-read"])]
 
@@ -379,7 +379,8 @@ def contract_roots(files):
 def statement_roots(files):
     roots, names = [], []
     for crate, file, wanted in STATEMENTS:
-        for name in wanted or [n for n, t in files[(crate, file)].theorems.items() if indent(t.statement[0]) == 0]:
+        f = files.get((crate, file)) or files[(crate, "proofs." + file)]
+        for name in wanted or [n for n, t in f.theorems.items() if indent(t.statement[0]) == 0]:
             roots.append((theorem(files, crate, file, name), "statement"))
             names.append(name)
     return roots, names
@@ -629,7 +630,7 @@ def read_all():
                 if name.endswith(".antt") and name != "Lib.antt":
                     files[(crate, name[:-5])] = read_specs(os.path.join(specs, name), crate, name[:-5])
         proofs = os.path.join(CRATES, crate, "proofs")
-        for name in sorted(os.listdir(proofs)) if crate in PROOFS else []:
+        for name in sorted(os.listdir(proofs)) if crate in PROOFS and os.path.isdir(proofs) else []:
             if name.endswith(".antt") and name != "Lib.antt":
                 files[(crate, "proofs." + name[:-5])] = read_specs(os.path.join(proofs, name), crate, "proofs." + name[:-5])
     return files
