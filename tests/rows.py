@@ -22,7 +22,7 @@ from make_vectors import rows_cases  # noqa: E402
 
 COMMAND = [str(ROOT / "rows.sh"), "-n"]
 SECONDS = 60
-"""For one run; on a processor other than x86-64 the program runs under an emulator."""
+"""For one run."""
 
 K = b"5 2 2 5 9 11 16 21 25 0 1 0 3 256 4 5 0 3 257 4 5 1 256 2 256 1 257 2 256\n"
 EIGHT = "0 0 1\n0 3 4\n0 5 6\n3 3 6\n2 2 8\n3 0 8\n"

@@ -6,7 +6,9 @@ contract or a final statement names, and every definition that such a definition
 
 - roots of the contracts: the names in the `ensures` of each `pub fn` of the library's crates (CONTRACTS below);
 - roots of the statements: the names in the statements (not the proofs) of the theorems in STATEMENTS below;
-- a definition is an `abbrev`, an `unfoldable`, a `data` or a `record` block of crates/*/specs/*.antt, or an enum of src/*.rt that specs use.
+- a definition is an `abbrev`, an `unfoldable`, a `data` or a `record` block of crates/*/specs/*.antt, or an enum of src/*.rt that specs use;
+- a theorem stands in a file of specs/, or, in the crates of PROOFS, in a file of proofs/*.antt: that of the same name is on the
+  definitions of the file of specs/.
 
 It goes from name to name through the `use` lines of each file. Lines are counted without comments and blank lines. A name that a block
 binds is a variable in all of that block. A plain definition (neither `abbrev` nor `unfoldable`) is opaque: where a counted block
@@ -19,8 +21,9 @@ names one, `--names` lists it.
     python3 tools/count_specs.py --write    writes both tables into docs/THEOREMS.md, between their markers
     python3 tools/count_specs.py --edits    docs/EDITS.md: adds a row for each edit that has none, and fills the first error from
                                             the logs named after it (of `rt must-fail` or of the gate; else those under target/)
-    python3 tools/count_specs.py --check    says whether the tables in docs/THEOREMS.md are those measured now, and whether every
-                                            name on that page and in docs/EDITS.md is declared, and every edit listed
+    python3 tools/count_specs.py --check    says whether the tables in docs/THEOREMS.md are those measured now, whether every name on
+                                            that page and in docs/EDITS.md, PROMISES.md and DECISIONS.md is declared, whether every
+                                            edit is listed, and whether grugalash_c promises what grugalash does
 """
 import os
 import re
@@ -35,6 +38,9 @@ CONTRACTS = [
     "text/src/reading.rt", "lines/src/lib.rt", "grugalash/src/lib.rt",
 ]
 PUBLIC = re.compile(r'^pub (?:extern "C" )?fn (\w+)')
+# the crates whose theorems stand in proofs/, so that an edit of a definition makes a theorem fail and not a file of specs. In other
+# crates the files proofs/*.antt are lemmas of the proofs of functions
+PROOFS = ["language", "machine", "text", "demands"]
 # the final statements: a file of specs, and the names in it; None for every public theorem of the file
 STATEMENTS = [("demands", "Proved", None), ("demands", "Starred", ["starred"]), ("text", "TextFed", ["text-fed", "pieces-read"])]
 
@@ -57,19 +63,19 @@ TIED = {
     ("area", "Shape", "area_in_shape"): [("shape", "InShape", "in-shape-exactly")],
     ("layout", "Layout", "decode"): [("shape", "Decode", "decode-encode")],
     ("text", "Feeding", "fed_all"): [("text", "TextFed", "text-fed"), ("text", "TextFed", "pieces-read")],
-    ("text", "Feeding", "fed"): [], ("text", "Feeding", "finish_of"): [], ("text", "Feeding", "answerOf"): [],
+    ("text", "Feeding", "fed"): [], ("text", "Feeding", "finish_of"): [], ("text", "Feeding", "answer_of"): [],
 }
 BEGIN, END = "<!-- count_specs begin -->", "<!-- count_specs end -->"
 FILES_BEGIN, FILES_END = "<!-- files begin -->", "<!-- files end -->"
 SECTIONS = ["What the library covers", "Numbers", "The grammar words", "Sets and matrix", "Moves of a chunk", "The report", "Refusal numbers", "Sample rows",
             "Errors my students make", "Forms to use in the code", "How far promises go"]
-KEYWORDS = {"abbrev", "unfoldable", "data", "record", "bad", "ensures", "use"}
-ORDER = ["refusals", "language", "laws", "machine", "results", "words", "table", "layout", "matrix", "area", "start", "shape", "outcomes", "moving", "reader", "parse", "report", "demands", "text", "lines", "grugalash", "rows", "vectors"]
+KEYWORDS = {"abbrev", "unfoldable", "data", "record", "bad", "requires", "ensures", "use", "clauses", "u16", "stdout"}
+ORDER = ["refusals", "language", "laws", "machine", "results", "words", "table", "layout", "matrix", "area", "start", "shape", "outcomes", "moving", "reader", "parse", "report", "demands", "text", "lines", "grugalash", "grugalash_c", "rows", "vectors"]
 
 HEAD = re.compile(r"^( *)(?:pub +)?(abbrev|unfoldable|data|record|module)\b(?: +pub)? +([^\s{]\S*)")
 THEOREM = re.compile(r"^( *)pub +([^\s:]+) *:")
-USE = re.compile(r"^(pub )?use +(Rattle·\S+?)(?:\.\{(.*)\})?(?: +as +(\S+))?;?$")
-OUTSIDE = re.compile(r"^use +(?!Rattle·)(\S+?)\.\{(.*)\};?$")
+USE = re.compile(r"^(pub )?use +(Rattle\.(?!std\.)\S+?)(?:\.\{(.*)\})?(?: +as +(\S+))?;?$")
+OUTSIDE = re.compile(r"^use +(?!Rattle\.(?!std\.))(\S+?)\.\{(.*)\};?$")
 WORD = re.compile(r"[^\s(){}\[\],;|«»⌜⌝]+")
 
 
@@ -97,12 +103,13 @@ def indent(line):
 
 
 def module_of(path):
-    """Rattle·machine.specs.States -> (machine, States); Rattle·machine·specs.specs.States likewise; enums: (refusals, declared.Refusal)."""
-    parts = path.split(".")
-    crate = parts[0].split("·")[1]
-    rest = [p for p in parts[1:] if p != "specs"]
+    """Rattle.machine.specs.States -> (machine, States); Rattle.machine.proofs.Moves -> (machine, proofs.Moves);
+    Rattle.refusals.specs.declared.Refusal, of an enum and of its variants -> (refusals, declared.Refusal)."""
+    crate, *rest = path.split(".")[1:]
+    if rest and rest[0] == "specs":
+        rest = rest[1:]
     if rest and rest[0] == "declared":
-        rest = [p for p in rest if p != "the-variants"]
+        rest = [p for p in rest if p != "TheVariants"]
         return crate, "declared." + rest[-1]
     return crate, ".".join(rest)
 
@@ -111,7 +118,7 @@ def read_use(line, f):
     o = OUTSIDE.match(line)
     if o:
         for item in o.group(2).split(","):
-            f.outside[item.strip().split(" as ")[-1].strip("_")] = o.group(1)
+            f.outside[item.strip().split(" as ")[-1].strip("◌")] = o.group(1)
     m = USE.match(line)
     if not m:
         return
@@ -280,6 +287,15 @@ def resolve(word, f, files):
     return None
 
 
+def theorem(files, crate, name, wanted):
+    """A theorem of a file of specs, or of the file of proofs of that name."""
+    for file in (name, "proofs." + name):
+        f = files.get((crate, file))
+        if f and wanted in f.theorems:
+            return f.theorems[wanted]
+    raise KeyError(f"{crate}/{name} has no theorem {wanted}")
+
+
 def names_in(lines):
     text = "\n".join(re.sub(r"--.*", "", l) for l in lines)
     return [w.rstrip(".") if not w.startswith(".") else w for w in WORD.findall(text)]
@@ -294,7 +310,7 @@ def reached(roots, files, tied=None):
             continue
         if tied and block.key() in tied:
             passed.add(block.key())
-            waiting += [(files[(c, f)].theorems[n], "tie") for c, f, n in tied[block.key()]]
+            waiting += [(theorem(files, c, f, n), "tie") for c, f, n in tied[block.key()]]
             continue
         found[block.key()] = (block, why)
         f = files[(block.crate, block.file)]
@@ -363,11 +379,10 @@ def contract_roots(files):
 def statement_roots(files):
     roots, names = [], []
     for crate, file, wanted in STATEMENTS:
-        f = files[(crate, file)]
-        for name, t in f.theorems.items():
-            if (wanted is None and indent(t.statement[0]) == 0) or name in (wanted or []):
-                roots.append((t, "statement"))
-                names.append(name)
+        f = files.get((crate, file)) or files[(crate, "proofs." + file)]
+        for name in wanted or [n for n, t in f.theorems.items() if indent(t.statement[0]) == 0]:
+            roots.append((theorem(files, crate, file, name), "statement"))
+            names.append(name)
     return roots, names
 
 
@@ -386,7 +401,7 @@ def place_in_document(header):
                      | {int(n) for n in re.findall(r"Check (\d),", header)})
     if numbers:
         said.append("refusals " + ", ".join(str(n) for n in numbers) if len(numbers) > 1 else "refusal " + str(numbers[0]))
-    said += sorted({"demand " + n for n in re.findall(r"[Dd]emand[ -](\d)", header)})
+    said += sorted({"demand " + n for n in re.findall(r"[Dd]emand[ -]?(\d)", header)})
     if "docs/AREA.md" in header:
         said.append("AREA.md")
     if "Document 004" in header:
@@ -398,27 +413,47 @@ def place_in_document(header):
     return "; ".join(said)
 
 
+def path_at(crate, file):
+    """machine, proofs.Moves -> crates/machine/proofs/Moves.antt; machine, Moves -> crates/machine/specs/Moves.antt."""
+    folder, name = ("proofs", file[7:]) if file.startswith("proofs.") else ("specs", file)
+    return os.path.join(CRATES, crate, folder, name + ".antt")
+
+
+def main_names(header, crate, file):
+    """The names that a header lists as main definitions and statements, as far as its file declares them; None if it lists none."""
+    main = re.search(r"Main (?:definition|statement)s?:.*$", header)
+    if not main:
+        return None
+    text = re.sub(r"\([^()]*\)", "", re.sub(r"Main (?:definition|statement)s?: *", "", main.group(0)))
+    whole = open(path_at(crate, file), encoding="utf-8").read()
+    known = set(re.findall(r"(?m)^ *(?:pub |abbrev |unfoldable |data |record )*([^\s:(){}]+)(?= )", whole))
+    return [w for w in re.findall(r"[^\s,;.:]+", text) if w in known and w not in ("of", "and", "the", "to", "with", "a", "is", "no", "proofs")]
+
+
+def public_names(f, in_modules=False):
+    return [n for n, b in f.blocks.items() if " pub " in " " + b.lines[0]] + [n for n, t in f.theorems.items() if in_modules or indent(t.statement[0]) == 0]
+
+
 def index(files):
     out = []
     for crate in ORDER:
-        names = sorted(n for c, n in files if c == crate and not n.startswith("declared."))
+        names = sorted((n for c, n in files if c == crate and not n.startswith("declared.")), key=lambda n: n.replace("proofs.", ""))
+        names = [n for n in names if not (n.startswith("proofs.") and n[7:] in names)]
         if not names:
             continue
         out += ["### " + crate, "", "| file | what it says | in document 01 | main definitions and statements |", "|---|---|---|---|"]
         for name in names:
-            header = header_of(os.path.join(CRATES, crate, "specs", name + ".antt"))
+            header = header_of(path_at(crate, name))
             first = re.split(r"(?<=[^.])\. +(?=[A-Z\"#`*]|docs/)|(?<=[^.])\.$| +Document 0| +Rests on", header)[0].strip()
-            main = re.search(r"Main (?:definition|statement)s?:.*$", header)
-            f = files[(crate, name)]
-            if main:
-                text = re.sub(r"\([^()]*\)", "", re.sub(r"Main (?:definition|statement)s?: *", "", main.group(0)))
-                listed = [w for w in re.findall(r"[^\s,;.:]+", text)]
-                whole = open(os.path.join(CRATES, crate, "specs", name + ".antt"), encoding="utf-8").read()
-                known = set(re.findall(r"(?m)^ *(?:pub |abbrev |unfoldable |data |record )*([^\s:(){}]+)(?= )", whole))
-                listed = [w for w in listed if w in known and w not in ("of", "and", "the", "to", "with", "a")]
-            else:
-                listed = [n for n, b in f.blocks.items() if " pub " in " " + b.lines[0]] + [n for n, t in f.theorems.items() if indent(t.statement[0]) == 0]
-            out.append(f"| `{name}` | {first} | {place_in_document(header)} | {', '.join('`' + w + '`' for w in dict.fromkeys(listed))} |")
+            mine = main_names(header, crate, name)
+            beside = (crate, "proofs." + name)
+            if beside in files:
+                proved = main_names(header_of(path_at(*beside)), *beside)
+                mine = (mine or []) + (public_names(files[beside], True) if proved is None else proved)
+            elif mine is None:
+                mine = public_names(files[(crate, name)])
+            shown = name.replace("proofs.", "proofs/")
+            out.append(f"| `{shown}` | {first} | {place_in_document(header)} | {', '.join('`' + w + '`' for w in dict.fromkeys(mine))} |")
         out.append("")
     return "\n".join(out).rstrip() + "\n"
 
@@ -426,7 +461,8 @@ def index(files):
 def declared_names():
     """Every name that specs, proofs or code declare: theorems, definitions, fields, constructors, functions, files, edits."""
     names = set()
-    for base, _, found in os.walk(CRATES):
+    for base, folders, found in os.walk(CRATES):
+        folders[:] = [f for f in folders if f != "out"]
         for name in found:
             path = os.path.join(base, name)
             if name.endswith(".edit"):
@@ -435,6 +471,8 @@ def declared_names():
                 rel = os.path.relpath(path, CRATES).split(os.sep)
                 if rel[1] == "specs":
                     names.update({name[:-5], rel[0] + "/" + name[:-5]})
+                elif rel[0] in PROOFS and len(rel) == 3:
+                    names.update({name[:-5], rel[0] + "/" + name[:-5], "proofs/" + name[:-5]})
                 for line in open(path, encoding="utf-8"):
                     m = re.match(r"^ *(?:pub |abbrev |unfoldable |data |record )*([^\s:(){}]+)(?: [^:=]*)?:", line)
                     if m:
@@ -460,41 +498,43 @@ def all_edits():
     return found
 
 
-def declaration_at(crate, place):
-    """specs/X.antt:12:5 -> the declaration of that file around line 12."""
-    file, line = place.split(":")[:2]
-    path = os.path.join(CRATES, crate, file)
-    if not os.path.exists(path):
-        return file
-    # outwards from the line: the declaration around it; if that stands in a `where`, the declaration around the `where`
-    lines = open(path, encoding="utf-8").read().split("\n")
-    i = min(int(line), len(lines)) - 1
-    name, limit, wanted = "", indent(lines[i]) + 1, True
-    while i >= 0:
-        text = lines[i]
-        i -= 1
-        if not text.strip() or indent(text) >= limit:
-            continue
-        m = re.match(r"^ *(?:pub |abbrev |unfoldable )*([^\s:(){}]+) : ", text)
-        if wanted and m:
-            name, limit, wanted = m.group(1), indent(text), False
-        elif not wanted and text.strip() == "where":
-            limit, wanted = indent(text), True
-        elif not wanted:
-            break
-    if file.startswith("proofs/"):
-        return "`" + name + "` in the proof of `" + file.split("/")[-2] + "`"
-    return "`" + name + "` (" + file.split("/")[-1][:-5] + ")"
+def functions_of(crate):
+    """The names of the functions of a crate's code, and the lines at which they begin, file by file."""
+    found = {}
+    src = os.path.join(CRATES, crate, "src")
+    for base, _, names in os.walk(src):
+        for name in sorted(names):
+            path = os.path.join(base, name)
+            lines = open(path, encoding="utf-8").read().split("\n")
+            found[os.path.relpath(path, os.path.join(CRATES, crate))] = [(i, m.group(1)) for i, l in enumerate(lines, 1) for m in [re.match(r'^ *(?:pub(?:\(\w+\))? )?(?:extern "C" )?fn (\w+)', l)] if m]
+    return found
+
+
+def declared_at(crate, file, line, name):
+    """Where an edit is refused: a goal of a function, named at its code or in its answers, or a theorem or lemma of a file."""
+    if file.startswith("src/"):
+        begun = functions_of(crate).get(file, [])
+        text = open(os.path.join(CRATES, crate, file), encoding="utf-8").read().split("\n")[line - 1]
+        after = [f for at, f in begun if at >= line][:1] if text.startswith("#[") else []
+        inside = after or [f for at, f in begun if at <= line][-1:] or [file]
+        return "`" + name + "` in the proof of `" + inside[0] + "`"
+    parts = file.split("/")
+    if len(parts) > 2:
+        return "`" + name + "` in the proof of `" + parts[-2] + "`"
+    return "`" + name + "` (" + parts[-1][:-5] + ")"
 
 
 def first_errors(sources):
-    """From logs of `rt must-fail` or of the gate, or folders of such logs: {(crate, edit): place of the first error}."""
+    """From logs of `rt must-fail` or of `rt ci`, or folders of such logs: {(crate, edit): place of the first error}. A later log counts."""
     found, paths = {}, []
     for source in sources:
-        paths += [source] if os.path.isfile(source) else [os.path.join(b, n) for b, _, names in os.walk(source) for n in names if n.endswith(".out")]
+        paths += [source] if os.path.isfile(source) else sorted(os.path.join(b, n) for b, _, names in os.walk(source) for n in names if n.endswith(".log"))
+    refused = re.compile(r"must-fail ([^\s/]+)/(\S+?)(?:\.edit)?: refused, as it must be: (?:note: )?(?:\./)?(\S+?):(\d+):\d+: (.*)")
     for path in paths:
-        for m in re.finditer(r"must-fail ([^\s/]+)/(\S+): refused, as it must be \(first at (\S+);", open(path, encoding="utf-8", errors="replace").read()):
-            found[(m.group(1), m.group(2))] = m.group(3)
+        for m in refused.finditer(open(path, encoding="utf-8", errors="replace").read()):
+            name = re.search(r"^error: `([^`]+)`", m.group(5)) or re.search(r"\(`([^`]+)`\)", m.group(5))
+            if name:
+                found[(m.group(1), m.group(2))] = declared_at(m.group(1), m.group(3), int(m.group(4)), name.group(1))
     return found
 
 
@@ -511,10 +551,10 @@ def edit_rows(page):
     return rows
 
 
-def write_edits(folders):
+def write_edits(sources):
     path = os.path.join(ROOT, "docs", "EDITS.md")
     page = open(path, encoding="utf-8").read()
-    rows, errors, edits = edit_rows(page), first_errors(folders), all_edits()
+    rows, errors, edits = edit_rows(page), first_errors(sources), all_edits()
     head = page.split("\n## ")[0].rstrip() + "\n"
     out = [head]
     for crate in ORDER + sorted({c for c, _ in edits} - set(ORDER)):
@@ -527,7 +567,7 @@ def write_edits(folders):
             cells = rows.get(key, ["", "", says.replace("|", "\\|"), "", ""])
             cells = (cells + [""] * 5)[:5]
             if key in errors:
-                cells[4] = declaration_at(crate, errors[key])
+                cells[4] = errors[key]
             out.append("| " + " | ".join(["`" + key[1] + "`", "`" + where + "`", cells[2], cells[3], cells[4]]) + " |")
         out.append("")
     open(path, "w", encoding="utf-8").write("\n".join(out).rstrip() + "\n")
@@ -545,8 +585,8 @@ def wrong_files(page):
         text = ""
         for w in beside:
             crate, _, name = w.partition("/")
-            path = os.path.join(CRATES, crate, "specs", name + ".antt")
-            text += open(path, encoding="utf-8").read() if os.path.exists(path) else ""
+            for path in (path_at(crate, name), path_at(crate, "proofs." + name)):
+                text += open(path, encoding="utf-8").read() if os.path.exists(path) else ""
         for w in re.findall(r"`([^`]+)`", cells[1]):
             if w in edits or "/" in w or os.path.isdir(os.path.join(CRATES, w)):
                 continue
@@ -555,14 +595,27 @@ def wrong_files(page):
     return bad
 
 
+PLAIN = re.compile(r"[\w'·?ᴰ⁻¹₀-₉-]+(?:/[\w'-]+)?$|([a-z_]+)::([a-z_]+)$|(?:[a-z_]+::)?([a-z_]+)\(.*\)$")
+
+
 def unknown_names(page, names):
+    """The names in backquotes that nothing declares. A goal of a function is declared by no file; that the function is there is looked at."""
     text = re.sub(r"```.*?```", "", open(os.path.join(ROOT, "docs", page), encoding="utf-8").read(), flags=re.S)
     text = re.sub(r"^    .*$", "", text, flags=re.M)
+    text = re.sub(r"`[^`]+` in the proof of (`[^`]+`)", r"\1", text)
     bad = []
-    for word in sorted(set(re.findall(r"`([^`]+)`", text))):
-        pattern = word.startswith(("-", "specs/", "src/", "target/")) or any(mark in word for mark in ("*", "CRATE", " "))
-        path = os.path.exists(os.path.join(ROOT, word)) or os.path.exists(os.path.join(CRATES, word))
-        if not (word in names or word in KEYWORDS or pattern or path):
+    for word in sorted(set(re.findall(r"`([^`\n]+)`", text))):
+        pattern = word.startswith(("-", "specs/", "src/", "target/")) or any(mark in word for mark in ("*", "CRATE", ".."))
+        path = os.path.exists(os.path.join(ROOT, word)) or os.path.exists(os.path.join(CRATES, word)) or any(word == f + ".antt" for f in names)
+        plain = PLAIN.match(word)
+        if not plain or word in names or word in KEYWORDS or pattern or path:
+            continue
+        if plain.group(1) or plain.group(3):
+            # a function, with its crate or with its arguments
+            if {plain.group(1), plain.group(2), plain.group(3)} - {None} <= names:
+                continue
+        crate, _, edit = word.partition("/")
+        if (crate, edit) not in all_edits():
             bad.append(word)
     return bad
 
@@ -576,6 +629,10 @@ def read_all():
             for name in sorted(os.listdir(specs)):
                 if name.endswith(".antt") and name != "Lib.antt":
                     files[(crate, name[:-5])] = read_specs(os.path.join(specs, name), crate, name[:-5])
+        proofs = os.path.join(CRATES, crate, "proofs")
+        for name in sorted(os.listdir(proofs)) if crate in PROOFS and os.path.isdir(proofs) else []:
+            if name.endswith(".antt") and name != "Lib.antt":
+                files[(crate, "proofs." + name[:-5])] = read_specs(os.path.join(proofs, name), crate, "proofs." + name[:-5])
     return files
 
 
@@ -587,7 +644,7 @@ def size_of(found):
 
 def path_of(block, files):
     f = files[(block.crate, block.file)]
-    return f"{block.crate}/{f.src}" if hasattr(f, "src") else f"{block.crate}/specs/{block.file}.antt"
+    return f"{block.crate}/{f.src}" if hasattr(f, "src") else os.path.relpath(path_at(block.crate, block.file), CRATES)
 
 
 def table(files, with_names):
@@ -617,7 +674,7 @@ def table(files, with_names):
     opaque, outside = also_named(by_all, files)
     words = sorted({w for _, w in outside if re.match(r"^[A-Za-z]", w)})
     out.append("Names of the toolchain's libraries in these lines: " + ", ".join("`" + w + "`" for w in words) + ".")
-    out.append(f"All lines of specs, comments and blank lines apart: {sum(f.total for f in files.values())}.")
+    out.append(f"All lines of specs, with those of the theorems in proofs/ of {' and '.join([', '.join(PROOFS[:-1]), PROOFS[-1]])}, comments and blank lines apart: {sum(f.total for f in files.values())}.")
     if with_names:
         out.append("Opaque: " + (", ".join(sorted(opaque)) or "none") + ".")
     return "\n".join(out) + "\n", set(words)
@@ -634,6 +691,18 @@ def why(name, files):
             print(" <- ".join(chain))
 
 
+def exported(crate):
+    """The heads and contracts of a crate's functions for C: name, parameters, answer and clauses, up to the body."""
+    text = open(os.path.join(CRATES, crate, "src", "lib.rt"), encoding="utf-8").read()
+    return dict(re.findall(r'(?ms)^#\[unsafe\(no_mangle\)\]\npub extern "C" fn (\w+)(.*?)^\{$', text))
+
+
+def exports_differ():
+    """Functions for C of grugalash and of grugalash_c, the static library over it, that are not the same in both."""
+    library, archive = exported("grugalash"), exported("grugalash_c")
+    return sorted(name for name in set(library) | set(archive) if library.get(name) != archive.get(name)), len(archive)
+
+
 def filled(page, parts):
     """The page with each part between its markers; and whether that changes it."""
     old = page
@@ -647,7 +716,7 @@ def check(page_fine, words):
     fine = page_fine
     print("the tables are those measured" if fine else "the tables are not those measured: python3 tools/count_specs.py --write")
     names = declared_names() | words
-    for doc in ("THEOREMS.md", "EDITS.md"):
+    for doc in ("THEOREMS.md", "PROMISES.md", "EDITS.md", "DECISIONS.md", "AREA.md"):
         bad = unknown_names(doc, names)
         fine = fine and not bad
         print(f"docs/{doc}: " + ("names that nothing declares: " + ", ".join(bad) if bad else "every name is declared"))
@@ -658,7 +727,9 @@ def check(page_fine, words):
     for key in sorted(set(rows) ^ set(edits)):
         fine = False
         print("docs/EDITS.md: " + "/".join(key) + (" is not listed" if key in edits else " is no edit"))
-    return fine
+    differ, count = exports_differ()
+    print("grugalash_c: " + ("differs from grugalash: " + ", ".join(differ) if differ else f"{count} functions with the contracts of grugalash"))
+    return fine and not differ
 
 
 def main():
