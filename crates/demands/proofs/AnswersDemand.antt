@@ -1,4 +1,6 @@
 -- What is proved of specs' AnswersDemand. Demand 1: of every public call, with any words lent to it, the numbers that it may answer, and what it leaves in the runs lent to it.
+--
+-- Main statements: number-listed, lent-kept, beyond-kept, parse-area-left.
 use Rattle.std.specs.Prelude.{◌≡◌, Bool, ◌⊎◌, ℕ, ◌+◌, ◌*◌, ◌≤◌, ◌<◌, ltb, length, get_or}
 use Rattle.std.proofs.Math.Path.{refl, ap}
 use Rattle.std.proofs.Common.{sym, subst, ◌∙◌, true≢false, inl, inr, arith}

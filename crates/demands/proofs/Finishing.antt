@@ -1,4 +1,5 @@
--- What is proved of specs' Finishing. Demand 3, (b) and (e): where the report answers 16 some step or join is accepted; so every schedule that goes on while it can
+-- What is proved of specs' Finishing. Demand 3, (b) and (e): where the report answers 16 some step or join is accepted; so every schedule that goes
+-- on while it can finishes, after at most nC + n + 4C - 2 moves.
 --
 -- Main statements: some-move, goes-on-finishes, lists-end, can-finish, finished-stays.
 use Rattle.std.specs.Prelude.{◌≡◌, refl, Bool, true, false, List, [], ◌∷◌, ◌++◌, ℕ, zero, suc, ◌+◌, ◌-◌, ◌≤◌, ◌<◌, eqb, length}

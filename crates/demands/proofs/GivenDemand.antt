@@ -1,4 +1,6 @@
 -- What is proved of specs' GivenDemand. *Given exactly*, of the public calls: each answer is given exactly when the table's sentence for it holds, every check before it passed.
+--
+-- Main statement: given-for.
 use Rattle.std.specs.Prelude.{◌≡◌, Bool, ◌↔◌, ℕ, ◌*◌, ◌≤◌, ◌<◌}
 use Rattle.std.proofs.Math.Path.{refl, ap}
 use Rattle.std.proofs.Common.{◌∙◌}

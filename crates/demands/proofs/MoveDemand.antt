@@ -1,4 +1,8 @@
--- What is proved of specs' MoveDemand. Demand 2 on step, run and join: an accepted call takes the area from the words of a state s to the words of a state s' exactly when
+-- What is proved of specs' MoveDemand. Demand 2 on step, run and join: an accepted call takes the area from the words of a state s to the words of a
+-- state s' exactly when document 01's sentences, as machine's relations say them, have that move of that chunk from s to s'; a run exactly when that
+-- many such moves lead there, and join likewise.
+--
+-- Main statements: step-demand, run-demand, join-demand; of a lent area: lent-state.
 use Rattle.std.proofs.Math.Path.{◌≡◌, refl, sym, ap}
 use Rattle.std.proofs.Common.{◌∙◌, arith}
 use Rattle.std.specs.Prelude.{true, ◌↔◌, List, ◌++◌, ℕ, ◌<◌, get_or, drop}

@@ -1,4 +1,6 @@
--- What is proved of specs' ParseDemand. Demand 2 on the one-call parse: for words that load accepts and runs long enough it accepts exactly when an axiom derives the tokens;
+-- What is proved of specs' ParseDemand. Demand 2 on the one-call parse: for words that load accepts and runs long enough it accepts exactly when an
+-- axiom derives the tokens; its report is the post-order of their one tree; otherwise it answers the number and place at which the uncut reader gets
+-- stuck.
 --
 -- Main statements: parse-accepts-exactly, parse-reports, parse-refuses, one-tree-only; the reader: uncut-reader; uncut-finished.
 use Rattle.std.specs.Prelude.{◌≡◌, refl, ◌↔◌, ◌⊎◌, ℕ, ◌*◌, ◌≤◌, length}

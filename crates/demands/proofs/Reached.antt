@@ -1,4 +1,7 @@
--- What is proved of specs' Reached. Demand 3, (a) and (c): in any order of calls after one accepted load and one accepted start none answers 15, a refused one changes
+-- What is proved of specs' Reached. Demand 3, (a) and (c): in any order of calls after one accepted load and one accepted start none answers 15, a
+-- refused one changes nothing, and the moves that the answers tell of are the count in the area, at most nC + n + 4C - 2.
+--
+-- Main statements: each_right, never-15, refused-changes-nothing, report-never-15, moves-counted, moves-few; in-shape-there, low-there.
 use Rattle.std.specs.Prelude.{◌≡◌, refl, Bool, true, false, ◌⊎◌, List, ℕ, suc, ◌+◌, ◌*◌, ◌%◌, ◌≤◌, ◌<◌, ltb, length, get_or}
 use Rattle.std.proofs.Common.{sym, ◌∙◌, inl, inr, arith}
 use Rattle.std.proofs.Math.Path.{ap}

@@ -1,4 +1,7 @@
--- What is proved of specs' Standing. What stands in the area after one accepted load, one accepted start and any list of step, run and join calls: the words of a state
+-- What is proved of specs' Standing. What stands in the area after one accepted load, one accepted start and any list of step, run and join calls:
+-- the words of a state that the machine's named moves reach from the start, as many of them as the calls' answers tell of.
+--
+-- Main statements: standing-begun, call-view, standing-call, standing-after.
 use Rattle.std.specs.Prelude.{◌≡◌, true, ◌⊎◌, List, ◌++◌, ℕ, suc, ◌+◌, ◌≤◌, length}
 use Rattle.std.proofs.Math.Path.{refl, ap}
 use Rattle.std.proofs.Common.{sym, subst, ◌∙◌, inl, inr, arith}

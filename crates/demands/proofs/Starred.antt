@@ -1,4 +1,6 @@
 -- What is proved of specs' Starred. The starred samples of document 01, all of them, as one table under one theorem, computed from the definitions that the contracts cite.
+--
+-- Main statements: starred; begun-K.
 use Rattle.std.specs.Prelude.{◌≡◌, true, ℕ, ◌*◌}
 use Rattle.std.proofs.Math.Path.{refl, ap}
 use Rattle.std.proofs.Common.{◌∙◌}

@@ -1,7 +1,7 @@
 -- The demands, each as a type over the names that the contracts of the public functions cite; that each is proved: Proved.
 -- What they assume is only what a caller sees: load and start answered 0, the tokens are 1 to 16,384 in 1..T, runs are long enough, the matrix lent
 -- to later calls begins with the 4,096 bytes that load left; and of a lent area that its word 2 has 16 bits, as every lent word has.
--- Rests on PublicCalls and Contracts, GivenDemand, AnswersDemand; ParseDemand, MoveDemand, Reached, SameReport and Finishing.
+-- Rests on PublicCalls and ContractsMet, GivenDemand, AnswersDemand; ParseDemand, MoveDemand, Reached, SameReport and Finishing.
 --
 -- Main definitions: Demand1, Demand1Contracts, Demand1Parse; Demand2Parse, Demand2Moves, Demand2Reached; Demand3, Demand3Finishes;
 -- StartNever15.

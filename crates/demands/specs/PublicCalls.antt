@@ -5,7 +5,7 @@
 -- A run that a call only reads is lent as shared, so that no program can write to it; of the others the contract gives every word.
 -- Rests on the definitions that the contracts cite, and on nothing else.
 --
--- Main definitions: PublicCall; GivesBack, promised, Keeps (that the contracts in code say just this: Contracts); number_for, numbers_for; Written, written.
+-- Main definitions: PublicCall; GivesBack, promised, Keeps (that the contracts in code say just this: ContractsMet); number_for, numbers_for; Written, written.
 use Rattle.std.specs.Prelude.{◌≡◌, Bool, List, [], ◌∷◌, ℕ, ◌+◌, ◌*◌, length}
 use Rattle.refusals.specs.declared.Refusal.{Refusal}
 use Rattle.refusals.specs.declared.Answer.{Answer}

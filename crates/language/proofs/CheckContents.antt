@@ -1,4 +1,7 @@
--- What is proved of specs' CheckContents. Check 2, CONTENTS: "an entry is absent, entry 0 isn't 4+R, an entry isn't 2 to 9 above the one before, or the last body isn't
+-- What is proved of specs' CheckContents. Check 2, CONTENTS: "an entry is absent, entry 0 isn't 4+R, an entry isn't 2 to 9 above the one before, or
+-- the last body isn't 2 to 9 words"; value: "first such entry; R for the last body".
+--
+-- Main statement: contents-finds.
 use Rattle.std.specs.Prelude.{◌≡◌, refl, Bool, true, false, ◌||◌, not, ◌⊎◌, List, ℕ, zero, suc, ◌+◌, ◌-◌, ◌<◌, leb, eqb, length}
 use Rattle.std.proofs.lemmas.Bool.{false≢true}
 use Rattle.std.proofs.Common.{inl, inr, arith}

@@ -1,4 +1,6 @@
 -- What is proved of specs' CheckForm. Check 4, FORM: "a right side has two adjacent nonterminals, or no terminal"; value: "first such rule".
+--
+-- Main statements: adjacent-iff, no-terminal-iff, form-finds.
 use Rattle.std.specs.Prelude.{◌≡◌, refl, true, false, ◌↔◌, ◌⊎◌, List, [], ◌∷◌, ◌++◌, ℕ, ◌<◌, length}
 use Rattle.std.proofs.Common.{sym, ◌∙◌, inl, inr}
 use Rattle.std.proofs.lemmas.Bool.{false≢true}

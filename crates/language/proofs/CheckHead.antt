@@ -1,4 +1,6 @@
 -- What is proved of specs' CheckHead. Check 1, HEAD: "one of the first 4 words is absent or outside 1..63, 1..64, 1..N, 1..256"; value: "first such word".
+--
+-- Main statement: head-finds.
 use Rattle.std.specs.Prelude.{◌≡◌, true, ◌⊎◌, List, ℕ, ◌<◌, leb, length}
 use Rattle.std.proofs.Common.{inl, inr}
 use Rattle.laws.specs.Least.{Finds, first_finds}

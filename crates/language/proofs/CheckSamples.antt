@@ -1,4 +1,6 @@
 -- What is proved of specs' CheckSamples. Document 01's grammar K as words, and what the checks say of it and of damaged copies, computed from the definitions.
+--
+-- Main statements: K-passes, head-256; head-257 and the others, one equation a refusal.
 use Rattle.std.specs.Prelude.{◌≡◌, refl, [], ◌∷◌, ◌++◌, set, take}
 use Rattle.std.proofs.Math.Option.{none}
 use Rattle.refusals.specs.declared.Refusal.TheVariants.{Head, Contents, Symbol, Form, Twin}

@@ -1,4 +1,6 @@
 -- What is proved of specs' CheckSymbols. Check 3, SYMBOL: "a body word is no nonterminal (left) or no symbol"; value: "first such word place".
+--
+-- Main statement: symbols-find.
 use Rattle.std.specs.Prelude.{◌≡◌, Bool, true, ◌&&◌, ◌⊎◌, List, ℕ, ◌+◌, ◌<◌, leb, ltb, eqb, length}
 use Rattle.std.proofs.Common.{inl, inr}
 use Rattle.laws.specs.Least.{Finds, first_finds}

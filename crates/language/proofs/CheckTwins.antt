@@ -1,4 +1,6 @@
 -- What is proved of specs' CheckTwins. Check 5, TWIN: "an earlier rule has the same right side"; value: "least rule for which this holds".
+--
+-- Main statement: twins-find.
 use Rattle.std.specs.Prelude.{◌≡◌, Bool, true, ℕ, ◌<◌, length}
 use Rattle.laws.specs.Least.{Finds, first_below, first_finds}
 use Rattle.laws.specs.Tests.{any_below-iff}

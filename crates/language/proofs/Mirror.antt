@@ -1,4 +1,5 @@
--- What is proved of specs' Mirror. The mirrored grammar: its rules are the grammar's rules with every right side turned round; what it spells is what the
+-- What is proved of specs' Mirror. The mirrored grammar: its rules are the grammar's rules with every right side turned round; what it spells is what
+-- the grammar spells, turned round; and so right sets in document 01's own words, from the end of a right side.
 --
 -- Main statements: mirrored-plays, mirrored-left, mirrored-spells, spells-mirrored, has-turned; right-ends, right-ends-before,
 -- right-ends-within, and that the right set is the least with these three, right-least.

@@ -1,4 +1,6 @@
 -- What is proved of specs' Pairwise. A relation that holds of each element of a list and every later one: rising numbers, entries in order, spans that differ.
+--
+-- Main statements: pairwise_append, pairwise-weaken.
 use Rattle.std.proofs.Common.{⊎_elim}
 use mathlib.Core.List.Memᴰ
 use mathlib.Core.List.{List, ◌++◌, Memᴰ}

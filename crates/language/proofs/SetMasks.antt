@@ -1,4 +1,5 @@
--- What is proved of specs' SetMasks. Left and right sets worked out: for one terminal a list of Booleans over the nonterminals, passed over until it rests; the
+-- What is proved of specs' SetMasks. Left and right sets worked out: for one terminal a list of Booleans over the nonterminals, passed over until it
+-- rests; the sets as masks, bit t for terminal t, and their sizes; proved equal to the least sets, over any count of terminals.
 --
 -- Main statements: left-exactly, right-exactly (the masks' bits are the least sets), left-members, right-members (so are the
 -- members that the sizes count), left-set-is (no other mask has these bits), left-ones (the size is the count of ones).

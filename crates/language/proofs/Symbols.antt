@@ -1,4 +1,6 @@
 -- What is proved of specs' Symbols. Symbols and relations: the vocabulary that everything else speaks in.
+--
+-- Main statements: same_string-eq, same_string-refl.
 use Rattle.std.specs.Prelude.{◌≡◌, refl, true, List, [], ◌∷◌}
 use Rattle.std.proofs.Common.{ap, ap₂}
 use Rattle.std.proofs.lemmas.Bool.{false≢true}

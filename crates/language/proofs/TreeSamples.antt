@@ -1,4 +1,7 @@
--- What is proved of specs' TreeSamples. Document 01's sample row under grammar K: its tree, the tree's post-order, a report put in order and matching, computed from the
+-- What is proved of specs' TreeSamples. Document 01's sample row under grammar K: its tree, the tree's post-order, a report put in order and
+-- matching, computed from the definitions.
+--
+-- Main statements: sample-derived, sample-report, sample-put-in-order, sample-matching.
 use Rattle.std.specs.Prelude.{◌≡◌, refl, [], ◌∷◌, ◌++◌, reverse, ℕ, ◌<◌}
 use Rattle.std.proofs.Math.Option.{some, none}
 use Rattle.std.proofs.Common.{lit<}

@@ -1,4 +1,5 @@
--- What is proved of specs' AllowedExactly. *Allowed exactly*: a step, and a join, is accepted and leaves s' exactly when document 01's sentences lead from s to s'; for
+-- What is proved of specs' AllowedExactly. *Allowed exactly*: a step, and a join, is accepted and leaves s' exactly when document 01's sentences lead
+-- from s to s'; for all states, and so for those that no start reaches.
 --
 -- Main statements: turn-exactly (one chunk), step-exactly, join-exactly. Views for other proofs: turn-view (what a chunk's turn
 -- does, by its rule), live_view, next-view.

@@ -1,4 +1,6 @@
 -- What is proved of specs' Answers. A row's outcome as an answer with a report run: the entries written, or the refusal.
+--
+-- Main statement: outcome-room-given.
 use Rattle.std.specs.Prelude.{◌≡◌, refl, Bool, true, false, ◌↔◌, ℕ, ◌*◌, ltb, length}
 use Rattle.std.proofs.Common.{sym, ap, ◌∙◌, arith}
 use Rattle.laws.specs.Tests.{ltb-true, lt-ltb}

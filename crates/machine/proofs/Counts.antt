@@ -1,4 +1,5 @@
--- What is proved of specs' Counts. *Count*: a row's count of moves is the number of steps and joins made since start; a run's answer is the number of named
+-- What is proved of specs' Counts. *Count*: a row's count of moves is the number of steps and joins made since start; a run's answer is the number of
+-- named moves that lead from the earlier state to the later one, and there is one such number only.
 --
 -- Main statements: turn-counts, moves-since-start, run-exactly, one_number, run-zero. Laws for a loop that makes a run's moves:
 -- run-moving, moving-after, moving-rests.

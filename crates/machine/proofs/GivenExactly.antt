@@ -1,4 +1,5 @@
--- What is proved of specs' GivenExactly. *Given exactly*: each refusal of a step, a run, a join and a row's outcome is given exactly when the table's sentence holds,
+-- What is proved of specs' GivenExactly. *Given exactly*: each refusal of a step, a run, a join and a row's outcome is given exactly when the table's
+-- sentence holds, and no other is given; and a report exactly when the one live chunk rests unstuck.
 --
 -- Main statements: step-no-chunk, step-at-rest, step-refuses, the same for run and join, no-join-exactly, unfinished-exactly,
 -- stuck-exactly (17 to 20), report-exactly.

@@ -1,4 +1,6 @@
 -- What is proved of specs' Moves. The one move of a chunk, by document 01's rules 1 to 6 in that order, for every stack and every next symbol.
+--
+-- Main statement: moved (every move, by the rule that made it).
 use Rattle.std.specs.Prelude.{◌≡◌, refl, Bool, true, false, ◌&&◌, List, [], map, ℕ, eqb}
 use Rattle.std.proofs.Math.Option.{Option, none, some}
 use Rattle.language.specs.Symbols.{Relation, blank, yields, equal, takes}

@@ -1,4 +1,6 @@
 -- What is proved of specs' Samples. Sample rows, computed from the definitions: grammar K's table written out, rows cut and uncut, outcomes and counts.
+--
+-- Main statements: one equation a row.
 use Rattle.std.specs.Prelude.{◌≡◌, refl, List, [], ◌∷◌, map, ℕ}
 use Rattle.refusals.specs.declared.Refusal.TheVariants.{NoRelation, NoRule, NotAxiom, SideBySide}
 use Rattle.language.specs.Symbols.{terminal, nonterminal, blank, yields, equal, takes}

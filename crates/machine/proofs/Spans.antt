@@ -1,4 +1,6 @@
--- What is proved of specs' Spans. The value that the machine proper gives a left side: the span of its right side's spans. Tokens by their places, and the spans
+-- What is proved of specs' Spans. The value that the machine proper gives a left side: the span of its right side's spans.
+--
+-- Main statements: unread-tokens, span-of-roots.
 use Rattle.std.specs.Prelude.{◌≡◌, refl, List, [], ◌∷◌, ◌++◌, ℕ, suc, ◌+◌, length}
 use Rattle.std.proofs.Common.{ap, ◌∙◌, arith, length-append}
 use Rattle.language.specs.Trees.{Span, Forest, none, leaf, node, frontier, width}

@@ -1,4 +1,7 @@
--- What is proved of specs' Starts. A start: however a row is cut, its pieces are the row, and its live chunks are chunk 0 with # on its stack and one chunk with
+-- What is proved of specs' Starts. A start: however a row is cut, its pieces are the row, and its live chunks are chunk 0 with # on its stack and one
+-- chunk with an empty stack for each cut.
+--
+-- Main statements: pieces-together, later-symbols, row-length, begun.
 use Rattle.std.specs.Prelude.{◌≡◌, refl, List, [], ◌∷◌, ◌++◌, map, ℕ, suc, ◌-◌, length, take, drop}
 use Rattle.std.proofs.Common.{ap, ◌∙◌, append-nil, take-append-drop}
 use Rattle.laws.specs.Parts.{flat}

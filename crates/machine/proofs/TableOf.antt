@@ -1,4 +1,6 @@
 -- What is proved of specs' TableOf. The table that a reader uses: relations from the bytes of a matrix, rules and axioms from the grammar words, spans as values.
+--
+-- Main statements: end-mark-of-words, laws-of-words; own-end-mark, own-laws.
 use Rattle.std.specs.Prelude.{◌≡◌, refl, List, [], ◌++◌, ℕ, ◌+◌, ◌*◌, ◌≤◌, ◌<◌}
 use Rattle.std.proofs.Common.{sym, ap, ◌∙◌, inl, inr, append-nil, arith}
 use Rattle.std.proofs.Math.Decide.{dec_lt}
