@@ -595,7 +595,7 @@ def wrong_files(page):
     return bad
 
 
-PLAIN = re.compile(r"[\w'·?ᴰ⁻¹₀-₉-]+(?:/[\w'-]+)?$|([a-z_]+)::([a-z_]+)$|(?:[a-z_]+::)?([a-z_]+)\(.*\)$")
+PLAIN = re.compile(r"[\w'·?ᴰ⁻¹₀-₉-]+(?:/[\w'-]+)?$|([a-z_]+)::([a-z_]+)$|(?:[a-z_]+::)?([a-z_]+)\(.*\)$|[\w/-]+\.(?:antt|rt|py|md|h|sh)$")
 
 
 def unknown_names(page, names):
