@@ -1,16 +1,41 @@
 // The input: a stream of 16-bit words, low byte first, and runs of words given by patterns.
 ghost use Rattle.std.specs.Prelude.{◌<◌, ◌≤◌, length};
 
-// What is left of the input.
+use std::io;
+use std::io::Read;
+
+// The reader, the piece of the input that it gave last, how much of that is taken, and how the first read that failed did so. After that
+// one, and after the input's end, nothing is read.
 #[derive(Drop)]
-pub struct Input<'a> {
-    rest: &'a [u8],
+pub struct Input<R> {
+    reader: R,
+    piece: [u8; 4096],
+    taken: usize,
+    filled: usize,
+    ended: bool,
+    read: io::Result<()>,
+    ghost in_order: { taken ≤ filled },
+    ghost in_bounds: { filled ≤ 4096 },
 }
 
-impl<'a> Input<'a> {
+impl<R: Read> Input<R> {
     // The input before its first word.
-    pub(crate) fn new(bytes: &'a [u8]) -> Input<'a> {
-        Input { rest: bytes }
+    pub(crate) fn new(reader: R) -> Input<R> {
+        Input {
+            reader,
+            piece: [0; 4096],
+            taken: 0,
+            filled: 0,
+            ended: false,
+            read: Ok(()),
+        }
+    }
+}
+
+impl<R: Read + Drop> Input<R> {
+    // What became of the reads.
+    pub(crate) fn finish(self) -> io::Result<()> {
+        self.read
     }
 }
 
@@ -21,27 +46,60 @@ pub(crate) fn wide_byte(byte: u8) -> u64
     byte as u64
 }
 
+// The next piece, in place of one that is taken.
+fn next_piece<R: Read>(input: &mut Input<R>) {
+    if input.ended {
+        return;
+    }
+    input.taken = 0;
+    input.filled = 0;
+    match input.reader.read(&mut input.piece) {
+        Ok(n) => {
+            input.filled = n;
+            input.ended = n == 0;
+        }
+        Err(error) => {
+            input.read = Err(error);
+            input.ended = true;
+        }
+    }
+}
+
+// The next byte of the input, if there is one.
+fn next_byte<R: Read>(input: &mut Input<R>) -> Option<u8> {
+    if input.taken == input.filled {
+        next_piece(input);
+    }
+    if input.taken == input.filled {
+        return None;
+    }
+    let byte = input.piece[input.taken];
+    input.taken += 1;
+    Some(byte)
+}
+
 // The next word of the input; 65,536 where there is none.
-pub(crate) fn next_word(input: &mut Input) -> u32
+pub(crate) fn next_word<R: Read>(input: &mut Input<R>) -> u32
     ensures { result ≤ 65536 }
 {
-    let rest = input.rest;
-    if rest.len() < 2 {
+    let Some(first) = next_byte(input) else {
         return 65536;
-    }
-    let low = wide_byte(rest[0]);
-    let high = wide_byte(rest[1]);
-    input.rest = &rest[2..];
+    };
+    let Some(second) = next_byte(input) else {
+        return 65536;
+    };
+    let low = wide_byte(first);
+    let high = wide_byte(second);
     (low + 256 * high) as u32
 }
 
 // The next word as a word.
-pub(crate) fn next_value(input: &mut Input) -> u16 {
+pub(crate) fn next_value<R: Read>(input: &mut Input<R>) -> u16 {
     (next_word(input) % 65536) as u16
 }
 
 // A number of two words, the low one first.
-pub(crate) fn next_wide(input: &mut Input) -> u32 {
+pub(crate) fn next_wide<R: Read>(input: &mut Input<R>) -> u32 {
     let low = next_word(input) % 65536;
     let high = next_word(input) % 65536;
     low + 65536 * high
@@ -49,7 +107,7 @@ pub(crate) fn next_wide(input: &mut Input) -> u32 {
 
 // Reads a piece of a run from place `at` on, and answers where it ends: how long it is, how long its pattern is, and the pattern,
 // which is repeated to the piece's end. A piece that the run has no room for is left out.
-fn read_piece(input: &mut Input, run: &mut [u16], at: usize) -> usize
+fn read_piece<R: Read>(input: &mut Input<R>, run: &mut [u16], at: usize) -> usize
     requires { at ≤ length run.old }
     ensures { result ≤ length run.old }
 {
@@ -72,7 +130,7 @@ fn read_piece(input: &mut Input, run: &mut [u16], at: usize) -> usize
 }
 
 // Reads a run, the number of its pieces and then those, and answers its length.
-pub(crate) fn read_run(input: &mut Input, run: &mut [u16]) -> usize
+pub(crate) fn read_run<R: Read>(input: &mut Input<R>, run: &mut [u16]) -> usize
     ensures { result ≤ length run.old }
 {
     let mut left = next_word(input);

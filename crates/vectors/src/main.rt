@@ -1,9 +1,10 @@
 // Runs many stored cases through the public calls and writes each answer. Standard input is a stream of 16-bit words, low byte
 // first, made by tools/call_vectors.py from the reference reader, and so is what it must write. A case is its kind and what its kind
-// asks; kind 6 is a grammar's words, under which the cases of kinds 0 to 5 after it stand. Standard input is read whole before the
-// first case. Where a read fails nothing is written, and after a write that fails nothing more; the program then ends with that error.
+// asks; kind 6 is a grammar's words, under which the cases of kinds 0 to 5 after it stand. A read that fails ends the cases as the input's
+// end does, and after a write that fails nothing more is written; the program then ends with the error of that read, or else of that write.
 #![tactic(auto)]
 
+mod buffered;
 mod input;
 mod rows;
 mod shown;
@@ -13,17 +14,17 @@ mod texts;
 use input::Input;
 use shown::Output;
 use std::io;
-use std::io::{BufWriter, Read, Write};
+use std::io::{Read, Write};
 
 // What the cases read and where their answers go.
 #[derive(Drop)]
-pub struct Streams<'a, W> {
-    input: Input<'a>,
+pub struct Streams<R, W> {
+    input: Input<R>,
     output: Output<W>,
 }
 
 // A case that stands under no grammar.
-fn other_case<W: Write>(streams: &mut Streams<W>, kind: u32) {
+fn other_case<R: Read, W: Write>(streams: &mut Streams<R, W>, kind: u32) {
     if kind == 7 {
         rows::entries_case(streams);
     } else if kind == 8 {
@@ -34,7 +35,7 @@ fn other_case<W: Write>(streams: &mut Streams<W>, kind: u32) {
 }
 
 // The cases one after the other, until the input is at its end.
-fn all_cases<W: Write>(streams: &mut Streams<W>) {
+fn all_cases<R: Read, W: Write>(streams: &mut Streams<R, W>) {
     let mut words = [0u16; 4096];
     let mut matrix = [0u8; 4096];
     let mut count = 0;
@@ -58,12 +59,13 @@ fn all_cases<W: Write>(streams: &mut Streams<W>) {
 }
 
 fn main(rt: HostRuntime) -> io::Result<()> {
-    let mut bytes = Vec::new(rt.alloc());
-    rt.reader().read_to_end(&mut bytes)?;
     let mut streams = Streams {
-        input: Input::new(bytes.as_slice()),
-        output: Output::new(BufWriter::new(rt.alloc(), io::writer(&rt))?),
+        input: Input::new(rt.stdin()),
+        output: Output::new(rt.stdout()),
     };
     all_cases(&mut streams);
-    streams.output.finish()
+    let Streams { input, output } = streams;
+    let written = output.finish();
+    input.finish()?;
+    written
 }

@@ -9,10 +9,10 @@ use crate::input::Input;
 use crate::shown::{Output, Told};
 use crate::{Streams, input, shown};
 use refusals::Answer;
-use std::io::Write;
+use std::io::{Read, Write};
 
 // A run's budget; 65,535 stands for the greatest.
-fn next_budget(input: &mut Input) -> u32 {
+fn next_budget<R: Read>(input: &mut Input<R>) -> u32 {
     let word = input::next_word(input);
     if word < 65535 {
         return word;
@@ -37,8 +37,8 @@ fn read_row(words: &[u16], matrix: &[u8], area: &mut [u16], chunks: usize) {
 }
 
 // A call that is lent the area to write.
-fn area_call(
-    input: &mut Input,
+fn area_call<R: Read>(
+    input: &mut Input<R>,
     call: u32,
     chunk: usize,
     words: &[u16],
@@ -86,8 +86,8 @@ fn report_call<W: Write>(
 }
 
 // A call that is lent a report's run to write.
-fn out_call<W: Write>(
-    streams: &mut Streams<W>,
+fn out_call<R: Read, W: Write>(
+    streams: &mut Streams<R, W>,
     before: u64,
     call: u32,
     words: &[u16],
@@ -124,8 +124,8 @@ fn keep(call: u32, area: &mut [u16], kept: &mut [u16; 115100]) {
 }
 
 // One word or byte changed.
-fn change(
-    input: &mut Input,
+fn change<R: Read>(
+    input: &mut Input<R>,
     call: u32,
     words: &mut [u16],
     matrix: &mut [u8; 4096],
@@ -143,7 +143,7 @@ fn change(
 }
 
 // The words of the area, or the first ones of the report's run.
-fn show_row<W: Write>(streams: &mut Streams<W>, call: u32, area: &[u16], out: &[u16]) {
+fn show_row<R: Read, W: Write>(streams: &mut Streams<R, W>, call: u32, area: &[u16], out: &[u16]) {
     if call == 13 {
         shown::show_words(&mut streams.output, area);
         return;
@@ -155,8 +155,8 @@ fn show_row<W: Write>(streams: &mut Streams<W>, call: u32, area: &[u16], out: &[
 }
 
 // One of the calls 1 to 7, and the sum of all the answers so far.
-fn one_call<W: Write>(
-    streams: &mut Streams<W>,
+fn one_call<R: Read, W: Write>(
+    streams: &mut Streams<R, W>,
     before: u64,
     call: u32,
     chunk: usize,
@@ -193,8 +193,8 @@ fn one_call<W: Write>(
 }
 
 // A schedule to its end, and the sum of all its answers.
-fn schedule<W: Write>(
-    streams: &mut Streams<W>,
+fn schedule<R: Read, W: Write>(
+    streams: &mut Streams<R, W>,
     words: &mut [u16],
     matrix: &mut [u8; 4096],
     tokens: &[u16],
@@ -231,8 +231,8 @@ fn schedule<W: Write>(
 
 // Kinds 4 and 5: tokens, cuts, how many words the area has, and a schedule, whose answers kind 4 shows one by one. The area's words
 // are nines at first.
-pub(crate) fn row_case<W: Write>(
-    streams: &mut Streams<W>,
+pub(crate) fn row_case<R: Read, W: Write>(
+    streams: &mut Streams<R, W>,
     aloud: bool,
     words: &mut [u16],
     matrix: &mut [u8; 4096],
@@ -264,7 +264,7 @@ pub(crate) fn row_case<W: Write>(
 }
 
 // The tokens of so many entries of a report's run: how many, and which.
-fn show_entries<W: Write>(streams: &mut Streams<W>, report: &[u16], tokens: &[u16]) {
+fn show_entries<R: Read, W: Write>(streams: &mut Streams<R, W>, report: &[u16], tokens: &[u16]) {
     let mut left = input::next_word(&mut streams.input);
     while 0 < left {
         let entry = input::next_wide(&mut streams.input) as usize;
@@ -276,7 +276,7 @@ fn show_entries<W: Write>(streams: &mut Streams<W>, report: &[u16], tokens: &[u1
 }
 
 // Kind 7: tokens, a report's run, and the entries whose tokens are asked.
-pub(crate) fn entries_case<W: Write>(streams: &mut Streams<W>) {
+pub(crate) fn entries_case<R: Read, W: Write>(streams: &mut Streams<R, W>) {
     let mut tokens = [0u16; 16400];
     let mut report = [0u16; 49200];
     let n = input::read_run(&mut streams.input, &mut tokens);

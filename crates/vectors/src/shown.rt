@@ -1,6 +1,7 @@
 // The output: answers as numbers, sums of what is lent, and the two put together.
 ghost use Rattle.std.specs.Prelude.{◌<◌};
 
+use crate::buffered::Buffered;
 use crate::input::wide_byte;
 use refusals::{Answer, Refusal, ReportAnswer, RunAnswer, SetAnswer};
 use std::io;
@@ -9,14 +10,14 @@ use std::io::Write;
 // Where the output goes, and how its first write that failed did so. After that one nothing is written.
 #[derive(Drop)]
 pub struct Output<W> {
-    writer: W,
+    writer: Buffered<W>,
     written: io::Result<()>,
 }
 
 impl<W: Write> Output<W> {
     pub(crate) fn new(writer: W) -> Output<W> {
         Output {
-            writer,
+            writer: Buffered::new(writer),
             written: Ok(()),
         }
     }

@@ -2,11 +2,11 @@
 ghost use Rattle.std.specs.Prelude.{◌≤◌, length};
 
 use crate::{Streams, input, shown};
-use std::io::Write;
+use std::io::{Read, Write};
 
 // Kind 6: a grammar's words, and their matrix in 4,096 bytes that were 0: the answer of load and the bytes' sum. How many words.
-pub(crate) fn new_grammar<W: Write>(
-    streams: &mut Streams<W>,
+pub(crate) fn new_grammar<R: Read, W: Write>(
+    streams: &mut Streams<R, W>,
     words: &mut [u16],
     matrix: &mut [u8; 4096],
 ) -> usize
@@ -21,8 +21,8 @@ pub(crate) fn new_grammar<W: Write>(
 }
 
 // Kinds 0 and 1: load into the first `room` bytes of a run of sevens; the answer, the run's sum, and for kind 1 the bytes not 0.
-fn load_case<W: Write>(
-    streams: &mut Streams<W>,
+fn load_case<R: Read, W: Write>(
+    streams: &mut Streams<R, W>,
     words: &[u16],
     run: &mut [u8],
     room: usize,
@@ -40,7 +40,7 @@ fn load_case<W: Write>(
 }
 
 // A case of kinds 0 to 3; kinds 2 and 3 ask for a left set and for a right set.
-pub(crate) fn table_case<W: Write>(streams: &mut Streams<W>, kind: u32, words: &[u16]) {
+pub(crate) fn table_case<R: Read, W: Write>(streams: &mut Streams<R, W>, kind: u32, words: &[u16]) {
     let asked = input::next_word(&mut streams.input);
     if kind < 2 {
         let mut run = [7u8; 5000];

@@ -4,7 +4,7 @@ ghost use Rattle.std.specs.Prelude.{◌<◌, ◌≤◌};
 use crate::input::Input;
 use crate::shown::Output;
 use crate::{Streams, input, shown};
-use std::io::Write;
+use std::io::{Read, Write};
 use text::reading;
 use text::reading::{State, TextAnswer};
 
@@ -84,7 +84,7 @@ fn read_pieces<W: Write>(output: &mut Output<W>, bytes: &[u8], size: usize) {
 }
 
 // A text in pieces of each size that is given.
-fn read_each<W: Write>(streams: &mut Streams<W>, bytes: &[u8]) {
+fn read_each<R: Read, W: Write>(streams: &mut Streams<R, W>, bytes: &[u8]) {
     let mut left = input::next_word(&mut streams.input);
     while 0 < left {
         let size = input::next_word(&mut streams.input) as usize;
@@ -94,7 +94,7 @@ fn read_each<W: Write>(streams: &mut Streams<W>, bytes: &[u8]) {
 }
 
 // Kind 8: a text, byte by byte, and the sizes of the pieces that it is read in.
-pub(crate) fn reading_case<W: Write>(streams: &mut Streams<W>) {
+pub(crate) fn reading_case<R: Read, W: Write>(streams: &mut Streams<R, W>) {
     let mut run = [0u16; 16400];
     let mut bytes = [0u8; 16400];
     let n = input::read_run(&mut streams.input, &mut run);
@@ -103,7 +103,7 @@ pub(crate) fn reading_case<W: Write>(streams: &mut Streams<W>) {
 }
 
 // A line of the answer with its numbers: 0 parse, 1 entry, 2 refused, 3 text; where it ends.
-fn put(input: &mut Input, line: u32, bytes: &mut [u8], at: usize) -> usize {
+fn put<R: Read>(input: &mut Input<R>, line: u32, bytes: &mut [u8], at: usize) -> usize {
     let a = input::next_wide(input);
     let b = input::next_wide(input);
     let c = input::next_wide(input);
@@ -120,7 +120,7 @@ fn put(input: &mut Input, line: u32, bytes: &mut [u8], at: usize) -> usize {
 }
 
 // Lines of the answer, from a place of a run of bytes on: where each ends, and the run.
-fn put_lines<W: Write>(streams: &mut Streams<W>, bytes: &mut [u8]) {
+fn put_lines<R: Read, W: Write>(streams: &mut Streams<R, W>, bytes: &mut [u8]) {
     let mut at = input::next_word(&mut streams.input) as usize;
     let mut left = input::next_word(&mut streams.input);
     while 0 < left {
@@ -134,7 +134,7 @@ fn put_lines<W: Write>(streams: &mut Streams<W>, bytes: &mut [u8]) {
 }
 
 // Kind 9: how many bytes there are for them, each a `#`, and lines of an answer.
-pub(crate) fn writing_case<W: Write>(streams: &mut Streams<W>) {
+pub(crate) fn writing_case<R: Read, W: Write>(streams: &mut Streams<R, W>) {
     let mut bytes = [b'#'; 16400];
     let room = input::next_word(&mut streams.input) as usize;
     if room <= 16400 {

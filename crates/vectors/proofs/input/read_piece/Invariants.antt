@@ -2,7 +2,7 @@ use Rattle.std.proofs.Common.{length, ◌-◌, ◌+◌, ◌≤◌, ◌≡◌}
 use Rattle.vectors.proofs.input.read_piece.Given as goal
 
 abbrev pub invariant-loop-i : goal.invariant-loop-i
-invariant-loop-i l = (l.at + l.size ≤ length l.run) × (length l.run ≡ length l.fn.run)
+invariant-loop-i g l = (l.at + l.size ≤ length l.run) × (length l.run ≡ length l.fn.run)
 
 abbrev pub decreases-loop-i : goal.decreases-loop-i
-decreases-loop-i l = l.size - l.i
+decreases-loop-i g l = l.size - l.i

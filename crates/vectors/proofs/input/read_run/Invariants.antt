@@ -2,7 +2,7 @@ use Rattle.std.proofs.Common.{length, ◌≤◌, ◌≡◌}
 use Rattle.vectors.proofs.input.read_run.Given as goal
 
 abbrev pub invariant-loop-left : goal.invariant-loop-left
-invariant-loop-left l = (l.at ≤ length l.run) × (length l.run ≡ length l.fn.run)
+invariant-loop-left g l = (l.at ≤ length l.run) × (length l.run ≡ length l.fn.run)
 
 abbrev pub decreases-loop-left : goal.decreases-loop-left
-decreases-loop-left l = l.left
+decreases-loop-left g l = l.left
