@@ -50,7 +50,7 @@ pub struct State {
 }
 
 // What a text says so far: more of it is wanted; or the first bad line, of 1 to 3; or how many words, tokens and cuts there are.
-#[derive(Drop)]
+#[derive(Clone, Copy)]
 pub enum TextAnswer {
     More,
     BadLine(u32),

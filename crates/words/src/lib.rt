@@ -29,7 +29,7 @@ pub fn check_words(words: &[u16]) -> Answer
 }
 
 // Where a rule's body stands: the place of its left side, and the place at which it ends.
-#[derive(Drop)]
+#[derive(Clone, Copy)]
 pub struct Body {
     pub start: usize,
     pub end: usize,

@@ -1,5 +1,5 @@
 -- `join`: the checks in their order, and then the join.
-use Rattle.std.proofs.Common.{◌≡◌, true, false, ◌<◌, get_or, sym, ◌∙◌, rules}
+use Rattle.std.proofs.Common.{◌≡◌, true, false, ◌<◌, get_or, sym, ◌∙◌, arith, rules}
 use Rattle.laws.specs.Tests.{and_both}
 use Rattle.area.specs.Shape.{in_shape}
 use Rattle.moving.specs.declared.Next.TheVariants.{Chunk, NoChunk}
@@ -69,7 +69,9 @@ at_rest-requires-in-Chunk c =
     let d = c.in-Chunk.d in
     let follow : Chunk d ≡ next_of (live_after a.area.now a.chunk) = sym c.in-Chunk.is ∙ c.next_live.ensures in
     let h = there a.words.now a.matrix.now a.area.now a.chunk low shape in
-    (right-listed a.chunk h alive (follows a.chunk h alive d follow), (table-there h).1)
+    let left = (live-true a.area.now a.chunk alive).0 in
+    let right = right-listed a.chunk h alive (follows a.chunk h alive d follow) in
+    (omega (arith, left, right), (table-there h).1)
 
 pub join_chunks-requires : goal.join_chunks-requires
 join_chunks-requires c =
