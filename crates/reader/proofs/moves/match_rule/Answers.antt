@@ -1,5 +1,5 @@
 -- `moves::match_rule`: what a rule of another length, a word that differs, words that agree to the end, and no rule left tell of the search.
-use Rattle.std.proofs.Common.{◌≡◌, ◌+◌, ◌-◌, ℕ, refl, sym, ap, ◌∙◌, arith, add-one, get_or}
+use Rattle.std.proofs.Common.{◌≡◌, ◌+◌, ◌-◌, ◌<◌, ℕ, refl, sym, ap, ◌∙◌, arith, add-one, get_or}
 use Rattle.std.proofs.Math.Seq.{slice}
 use Rattle.laws.specs.Least.{first_from}
 use Rattle.moving.specs.Comparing.{body-next, count_fits, same_length, same-there, counts-on, same-past, same-differ, same-both}
@@ -39,12 +39,14 @@ outer-preserved-then-end-i c =
 
 pub slot_word-requires : goal.slot_word-requires
 slot_word-requires c =
+    let below : c.loop-i.i < c.body_end-end.result = omega arith in
     let v = c.loop-i.invariant in
-    let l = same-there c.args.words.now _ c.body_end-end.ensures.1 _ _ _ _ v.0 c.loop-i-test.true v.2 in
+    let l = same-there c.args.words.now _ c.body_end-end.ensures.1 _ _ _ _ v.0 below v.2 in
     (c.requires.0, omega (arith, l, c.requires.3))
 
 pub outer-preserved : goal.outer-preserved
 outer-preserved c =
+    let below : c.loop-i.i < c.body_end-end.result = omega arith in
     let a = c.args in
     let o = c.outer in
     let b = c.body_end-end in
@@ -53,7 +55,7 @@ outer-preserved c =
       omega (arith, l),
       o.invariant.1
           ∙ first_past (has_right a.words.now (handle_words a.area.now a.from a.head)) _ o.next l
-          (v.invariant.1 ∙ same-differ a.words.now _ b.ensures.1 a.area.now a.head v.i v.s v.invariant.0 c.loop-i-test.true v.invariant.2
+          (v.invariant.1 ∙ same-differ a.words.now _ b.ensures.1 a.area.now a.head v.i v.s v.invariant.0 below v.invariant.2
           (λ q. c.if-words-i.true (q ∙ sym c.slot_word.ensures))),
       b.ensures.1,
       λ h. b.ensures.0 ∙ body-next a.words.now o.next h,
@@ -61,15 +63,16 @@ outer-preserved c =
 
 pub slot_word-requires-in-loop-i : goal.slot_word-requires-in-loop-i
 slot_word-requires-in-loop-i c =
+    let below : c.loop-i.i < c.body_end-end.result = omega arith in
     let v = c.loop-i.invariant in
-    let l = same-there c.args.words.now _ c.body_end-end.ensures.1 _ _ _ _ v.0 c.loop-i-test.true v.2 in
+    let l = same-there c.args.words.now _ c.body_end-end.ensures.1 _ _ _ _ v.0 below v.2 in
     (c.requires.0, omega (arith, l, c.requires.3))
 
 pub loop-i-preserved : goal.loop-i-preserved
 loop-i-preserved c =
     let a = c.args in
     let v = c.loop-i in
-    let t = c.loop-i-test.true in
+    let t : c.loop-i.i < c.body_end-end.result = omega arith in
     let ends = c.body_end-end.ensures.1 in
     rw c.slot_word-in-loop-i.ensures (
       whole-rest v.invariant.0 (same-there a.words.now _ ends _ _ _ _ v.invariant.0 t v.invariant.2),
