@@ -2,12 +2,15 @@
 """Brings the repository's own names to the spelling of today's Rattle, after port.py: words in snake case, types in camel case.
 
 usage: python3 tools/respell.py LANDED      at the top of the checkout, once, after port.py; LANDED is the commit before the port
+       python3 tools/respell.py --members   only the last of the renamings below
 
 It renames in every .rt and .antt file below crates/, comments included, in README.md, docs/ and tools/:
 - each name that begins with a small letter and has a capital in it: `oneIfTerminal` becomes `one_if_terminal`, `sameSymbol-refl`
   `same_symbol-refl` (lemmas keep their dashes: a dash joins two names);
 - the types of the demands: `Demand-1-contracts` becomes `Demand1Contracts`;
-- the module `Contracts` of demands, a name that Rattle now takes for its own, becomes `ContractsMet`.
+- the module `Contracts` of demands, a name that Rattle now takes for its own, becomes `ContractsMet`;
+- the fields of records, the constructors of data and the definitions with a dash: `keeps-rules` becomes `keeps_rules`, but for those that would fall together with a word (a name
+  that some file has in both spellings, or that another library has too), which keep their dash.
 Before that it gives back its dash to each lemma whose new name port.py, or this script, would make the name of another thing (APART).
 """
 
@@ -39,6 +42,8 @@ APART = {
     "table-at": ["outcomes/specs/OutcomeWords.antt", "shape/specs/Decode.antt", "shape/specs/Encoded.antt", "shape/specs/ShapeOfKept.antt"],
     "words-of": ["demands/specs/Demands.antt", "demands/specs/Proved.antt", "moving/specs/OneMove.antt", "shape/specs/ShapeExactly.antt"],
     "by-shape": ["start/specs/StartChecks.antt"],
+    "body-of": ["demands/specs/PublicCalls.antt", "demands/specs/Contracts.antt", "demands/specs/GivenDemand.antt", "demands/specs/AnswersDemand.antt"],
+    "read-through": ["demands/specs/PublicCalls.antt", "demands/specs/Contracts.antt", "demands/specs/GivenDemand.antt", "demands/specs/AnswersDemand.antt"],
 }
 
 WHOLE = {
@@ -102,7 +107,72 @@ def code(text, mark):
     return "\n".join(l for l in text.split("\n") if not l.strip().startswith(mark))
 
 
+def members():
+    """The fields, constructors and definitions with a dash, in snake case."""
+    text = {p: read(p) for p in sources("crates") if p.endswith((".rt", ".antt"))}
+    tokens = {p: set(TOKEN.findall(code(t, "//" if p.endswith(".rt") else "--"))) for p, t in text.items()}
+    names = set()
+    for p, t in text.items():
+        lines, depth = t.split("\n"), None
+        for i, line in enumerate(lines):
+            indent = len(line) - len(line.lstrip())
+            head = re.match(r"\s*(?:pub )?(?:data|record) \S", line)
+            word = re.match(r"\s*(?:abbrev|unfoldable)(?: pub)? ([^\s(){}:;,]+) :", line)
+            if word and "-" in word[1] and not p.endswith("/Invariants.antt"):
+                names.add(word[1])
+            if head and p.endswith(".antt"):
+                depth = indent
+            elif depth is not None and (not line.strip() or indent <= depth):
+                depth = None
+            elif depth is not None and indent == depth + 2:
+                member = re.match(r"\s+(?:pub )?([^\s(){}:;,]+) :", line)
+                if member and "-" in member[1]:
+                    names.add(member[1])
+    foreign = set()
+    for t in text.values():
+        for line in re.findall(r"(?m)^(?:ghost |pub )*use (?!Rattle\.(?!std\.))(?:.*)$|^(?:ghost |pub )*use Rattle\.std\..*$", t):
+            foreign |= set(TOKEN.findall(line))
+    to = {}
+    for n in sorted(names):
+        joined = n.replace("-", "_")
+        if n not in foreign and not any(n in ts and joined in ts for ts in tokens.values()):
+            to[n] = joined
+    for p in sources("crates"):
+        if p.endswith((".rt", ".antt")):
+            mark = "//" if p.endswith(".rt") else "--"
+            out, main = [], False
+            for line in read(p).split("\n"):
+                comment = line.strip().startswith(mark)
+                main = comment and (main or line.startswith(mark + " Main "))
+                out.append("".join(to.get(x, x) for x in TOKEN.findall(line)) if main or not comment else quoted(line, to))
+            write_if(p, "\n".join(out))
+        elif p.endswith(".edit"):
+            write_if(p, "\n".join(line if line.startswith("#") else "".join(to.get(x, x) for x in TOKEN.findall(line)) for line in read(p).split("\n")))
+    for p in ["README.md"] + [p for d in ("docs", "tools") for p in sources(d)]:
+        if p.endswith((".md", ".py")) and os.path.basename(p) not in ("respell.py", "PORT.md", "EDITS.md"):
+            write_if(p, "\n".join(quoted(line, to) if p.endswith(".md") else strings(line, to) for line in read(p).split("\n")))
+    print(f"{len(to)} fields, constructors and definitions respelled; kept: " + " ".join(sorted(n for n in names if n not in to)))
+
+
+def quoted(line, to):
+    """The line with the names renamed that stand in it between backquotes."""
+    return re.sub(r"`[^`]*`", lambda m: "".join(to.get(x, x) for x in TOKEN.findall(m[0])), line)
+
+
+def strings(line, to):
+    """The line with each string renamed that is a name."""
+    return re.sub(r'"([^"]*)"', lambda m: '"' + to.get(m[1], m[1]) + '"', line)
+
+
+def write_if(path, text):
+    if text != read(path):
+        write(path, text)
+
+
 def main(landed):
+    if landed == "--members":
+        members()
+        return
     apart(landed)
     names = set()
     for p in sources("crates"):
@@ -123,6 +193,7 @@ def main(landed):
                 write(p, new)
     subprocess.run(["git", "mv", "crates/demands/specs/Contracts.antt", "crates/demands/specs/ContractsMet.antt"], check=True)
     print(f"{len(to)} names respelled")
+    members()
 
 
 if __name__ == "__main__":

@@ -27,10 +27,10 @@ sized_of area h =
     let count = get_or area 1 0 in
     let e = each_of (leb 1 n ∷ leb n 16384 ∷ leb 1 count ∷ leb count 64 ∷ leb (need n count) (length area) ∷ []) h in
     record {
-      some-token = leb-true _ _ e.0;
-      few-tokens = leb-true _ _ e.1.0;
-      some-chunk = leb-true _ _ e.1.1.0;
-      few-chunks = leb-true _ _ e.1.1.1.0;
+      some_token = leb-true _ _ e.0;
+      few_tokens = leb-true _ _ e.1.0;
+      some_chunk = leb-true _ _ e.1.1.0;
+      few_chunks = leb-true _ _ e.1.1.1.0;
       long = leb-true _ _ e.1.1.1.1.0;
     }
 
@@ -161,9 +161,9 @@ module _ (t n : ℕ) (area : List ℕ) (sized : Sized area) (k : ℕ) (w : Walk)
         end_low = omega arith;
         live = within.live;
         running = within.running;
-        unread-low = omega arith;
-        symbols-low = omega arith;
-        terminals-low = omega arith;
+        unread_low = omega arith;
+        symbols_low = omega arith;
+        terminals_low = omega arith;
       }
 
   abbrev One : Walk → Type 0
@@ -184,9 +184,9 @@ module _ (t n : ℕ) (area : List ℕ) (sized : Sized area) (k : ℕ) (w : Walk)
         at = can.end_low;
         live = omega arith;
         running = pick-with (λ v. w.running + v ≤ k + 1) (eqb x 1) (λ i. omega arith) (λ i. omega arith);
-        unread = can.unread-low;
-        symbols = can.symbols-low;
-        terminals = can.terminals-low;
+        unread = can.unread_low;
+        symbols = can.symbols_low;
+        terminals = can.terminals_low;
       }
 
   pub line-within : One (line_of t n area w x f h e y)
@@ -262,7 +262,7 @@ few-fresh from = record { symbols = omega arith; terminals = omega arith; marks 
 -- a row of the table
 pub within-here : {area : List ℕ} → Sized area → {i count : ℕ} → i < count → count ≡ get_or area 1 0 → (w : Walk) → Within i w → Within 63 w
 within-here sized {i = i} h few w within =
-    let k : i ≤ 63 = omega (arith, sized.few-chunks) in
+    let k : i ≤ 63 = omega (arith, sized.few_chunks) in
     record {
       at = within.at;
       live = omega (arith, within.live);

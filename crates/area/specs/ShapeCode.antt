@@ -11,10 +11,10 @@ use Rattle.area.specs.declared.shape.Walk.{Walk}
 
 -- (c) as facts
 pub record Sized (area : List ℕ) : Type 0 where
-  pub some-token : 1 ≤ get_or area 0 0
-  pub few-tokens : get_or area 0 0 ≤ 16384
-  pub some-chunk : 1 ≤ get_or area 1 0
-  pub few-chunks : get_or area 1 0 ≤ 64
+  pub some_token : 1 ≤ get_or area 0 0
+  pub few_tokens : get_or area 0 0 ≤ 16384
+  pub some_chunk : 1 ≤ get_or area 1 0
+  pub few_chunks : get_or area 1 0 ≤ 64
   pub long : need (get_or area 0 0) (get_or area 1 0) ≤ length area
 
 -- a scan has counted at most k of each
@@ -37,6 +37,6 @@ pub record Countable (k end : ℕ) (w : Walk) (stack unread : Scan) : Type 0 whe
   pub end_low : end ≤ 16386
   pub live : w.live ≤ k
   pub running : w.running ≤ k
-  pub unread-low : w.unread + unread.symbols ≤ end
-  pub symbols-low : w.symbols + stack.symbols + unread.symbols ≤ end
-  pub terminals-low : w.terminals + stack.terminals + unread.terminals ≤ end
+  pub unread_low : w.unread + unread.symbols ≤ end
+  pub symbols_low : w.symbols + stack.symbols + unread.symbols ≤ end
+  pub terminals_low : w.terminals + stack.terminals + unread.terminals ≤ end

@@ -17,7 +17,7 @@ use Rattle.refusals.specs.declared.RunAnswer.{RunAnswer}
 use Rattle.refusals.specs.declared.ReportAnswer.{ReportAnswer}
 use Rattle.refusals.specs.Refusals.{number_of, answer_number, set_number, run_number, report_number}
 use Rattle.language.specs.Words.{count_t, count_n, grammar_of}
-use Rattle.language.specs.Stages.{Stage, checked, stages_of, Given, passes-all, fails, passes}
+use Rattle.language.specs.Stages.{Stage, checked, stages_of, Given, passes_all, fails, passes}
 use Rattle.language.proofs.Stages.{none_left}
 use Rattle.language.specs.Checks.{symbol_conditions, word_conditions, check_symbols, check_words}
 use Rattle.language.specs.Matrix.{matrix_of}
@@ -32,7 +32,7 @@ use Rattle.machine.specs.Moves.{Stuck, no_relation, no_rule, not_axiom, side_by_
 use Rattle.machine.specs.States
 use Rattle.machine.specs.States.{State, Called, refused, became, Ran, refused_run, ran, Outcome, refused_row, reported, refusal_of}
 use Rattle.machine.specs.TableOf.{table_of}
-use Rattle.machine.specs.Schedules.{Turned, by-step, by-join, Schedule, no-turn, one-turn}
+use Rattle.machine.specs.Schedules.{Turned, by_step, by_join, Schedule, no_turn, one_turn}
 use Rattle.machine.proofs.Counts.{made-scheduled, run-exactly}
 use Rattle.machine.specs.Answers.{outcome_answer, outcome_out}
 use Rattle.layout.specs.Layout.{need, zeros, encode, decode, need_in}
@@ -44,7 +44,7 @@ use Rattle.shape.specs.ShapeExactly.{HoldsState}
 use Rattle.shape.specs.InShape.{in-shape-parts, in-shape-holds}
 use Rattle.shape.specs.RulesAfterTurn.{same_number}
 use Rattle.shape.specs.Safe.{Safe, safe-turned, safe-run}
-use Rattle.start.specs.Start.{start_conditions, GrammarBroken, grammar-broken, too-many-cuts, cut-above, cut_below, WrongCut, NoRoomForRow, no_room}
+use Rattle.start.specs.Start.{start_conditions, GrammarBroken, grammar_broken, too_many_cuts, cut_above, cut_below, WrongCut, NoRoomForRow, no_room}
 use Rattle.start.specs.Start.{start_answer, started_area, start_area, starts-exactly}
 use Rattle.start.specs.StartKept.{cuts-good}
 use Rattle.start.specs.StartWords.{start-words, start-words-length}
@@ -54,12 +54,12 @@ use Rattle.parse.specs.ParseCall.{parsed_answer, parsed_area, parsed_out, parse_
 use Rattle.report.specs.ReportCall.{report_outcome, report_answer, report_out}
 use Rattle.matrix.specs.EndMarkOfShape.{own-shape}
 use Rattle.moving.specs.OnWords.{step-broken, step-in-shape, run-broken, run-in-shape, join-broken, join-in-shape}
-use Rattle.demands.specs.PublicCalls.{PublicCall, number-of, value-of, stuck-refusal, check-symbols, check-words, body_of, load, left-set, right-set, grammar-in-shape}
-use Rattle.demands.specs.PublicCalls.{in-shape, start, step, run, join, read_through, report, parse, entry-tokens}
+use Rattle.demands.specs.PublicCalls.{PublicCall, number-of, value-of, stuck-refusal, check-symbols, check-words, body-of, load, left-set, right-set, grammar-in-shape}
+use Rattle.demands.specs.PublicCalls.{in-shape, start, step, run, join, read-through, report, parse, entry-tokens}
 use Rattle.demands.specs.PublicCalls.{number_for, numbers_for, words_of, Written, written}
-use Rattle.demands.specs.GivenDemand.{StepGiven, step-15, step-12, step-13, step-0, RunGiven, run-15, run-12, run-13, run-0}
-use Rattle.demands.specs.GivenDemand.{JoinGiven, join-15, join-12, join-14, join-0, ReportGiven, report-15, report-16, report-stuck, report-11, report-0}
-use Rattle.demands.specs.GivenDemand.{ParseGiven, parse-words, parse-row, parse-stuck, parse-11, parse-0}
+use Rattle.demands.specs.GivenDemand.{StepGiven, step_15, step_12, step_13, step_0, RunGiven, run_15, run_12, run_13, run_0}
+use Rattle.demands.specs.GivenDemand.{JoinGiven, join_15, join_12, join_14, join_0, ReportGiven, report_15, report_16, report_stuck, report_11, report_0}
+use Rattle.demands.specs.GivenDemand.{ParseGiven, parse_words, parse_row, parse_stuck, parse_11, parse_0}
 use Rattle.demands.specs.GivenDemand.{lent_to_load, lent_to_set, lent_to_start}
 use Rattle.demands.proofs.GivenDemand.{load_given, start-given}
 use Rattle.demands.specs.GivenDemand.{refused-by-load, refused-by-start}
@@ -77,15 +77,15 @@ on m = Memᴰ.tail m
 
 -- stages one after the other, and the number of each
 data Numbered {Input : Type 0} : List (Stage Input) → List ℕ → Type 0 where
-  no-stage : Numbered [] []
-  and-stage : {stage : Stage Input} {stages : List (Stage Input)} {n : ℕ} {numbers : List ℕ} → ((v : ℕ) → number_of (stage.refusal v) ≡ n)
+  no_stage : Numbered [] []
+  and_stage : {stage : Stage Input} {stages : List (Stage Input)} {n : ℕ} {numbers : List ℕ} → ((v : ℕ) → number_of (stage.refusal v) ≡ n)
       → Numbered stages numbers → Numbered (stage ∷ stages) (n ∷ numbers)
 
 -- their answer is 0 or one of the numbers
 staged : {Input : Type 0} (stages : List (Stage Input)) {numbers : List ℕ} → Numbered stages numbers → (input : Input)
     → Memᴰ (answer_number (checked stages input)) (0 ∷ numbers)
-staged [] no-stage input = here
-staged (stage ∷ stages) (and-stage {n = n} {numbers = numbers} is rest) input = go (stage.fails_at input) (staged stages rest input)
+staged [] no_stage input = here
+staged (stage ∷ stages) (and_stage {n = n} {numbers = numbers} is rest) input = go (stage.fails_at input) (staged stages rest input)
   where
     later : {m : ℕ} → Memᴰ m (0 ∷ numbers) → Memᴰ m (0 ∷ n ∷ numbers)
     later (Memᴰ.head e) = Memᴰ.head e
@@ -98,25 +98,25 @@ staged (stage ∷ stages) (and-stage {n = n} {numbers = numbers} is rest) input 
 
 symbols-listed : (words : List ℕ) → Memᴰ (answer_number (check_symbols words)) (0 ∷ numbers_for (check-symbols words))
 unfolding check_symbols
-symbols-listed words = staged (stages_of symbol_conditions) (and-stage (λ v. refl) (and-stage (λ v. refl) (and-stage (λ v. refl) no-stage))) words
+symbols-listed words = staged (stages_of symbol_conditions) (and_stage (λ v. refl) (and_stage (λ v. refl) (and_stage (λ v. refl) no_stage))) words
 
 words-listed : (words : List ℕ) → Memᴰ (answer_number (check_words words)) (0 ∷ numbers_for (check-words words))
 unfolding check_words
 words-listed words =
-    staged (stages_of word_conditions) (and-stage (λ v. refl) (and-stage (λ v. refl) (and-stage (λ v. refl) (and-stage (λ v. refl)
-    (and-stage (λ v. refl) no-stage))))) words
+    staged (stages_of word_conditions) (and_stage (λ v. refl) (and_stage (λ v. refl) (and_stage (λ v. refl) (and_stage (λ v. refl)
+    (and_stage (λ v. refl) no_stage))))) words
 
 load-listed : (words bytes : List ℕ) → Memᴰ (answer_number (load_answer words (length bytes))) (0 ∷ numbers_for (load words bytes))
 unfolding load_answer
 load-listed words bytes =
-    staged (stages_of load_conditions) (and-stage (λ v. refl) (and-stage (λ v. refl) (and-stage (λ v. refl) (and-stage (λ v. refl) (and-stage (λ v. refl)
-    (and-stage (λ v. refl) (and-stage (λ v. refl) no-stage))))))) (lent_to_load words (length bytes))
+    staged (stages_of load_conditions) (and_stage (λ v. refl) (and_stage (λ v. refl) (and_stage (λ v. refl) (and_stage (λ v. refl) (and_stage (λ v. refl)
+    (and_stage (λ v. refl) (and_stage (λ v. refl) no_stage))))))) (lent_to_load words (length bytes))
 
 set-listed : (words : List ℕ) (k : ℕ) → Memᴰ (answer_number (set_checked words k)) (0 ∷ numbers_for (left-set words k))
 unfolding set_checked
 set-listed words k =
-    staged (stages_of set_conditions) (and-stage (λ v. refl) (and-stage (λ v. refl) (and-stage (λ v. refl) (and-stage (λ v. refl) (and-stage (λ v. refl)
-    (and-stage (λ v. refl) no-stage)))))) (lent_to_set words k)
+    staged (stages_of set_conditions) (and_stage (λ v. refl) (and_stage (λ v. refl) (and_stage (λ v. refl) (and_stage (λ v. refl) (and_stage (λ v. refl)
+    (and_stage (λ v. refl) no_stage)))))) (lent_to_set words k)
 
 -- a set's number is that of its checks
 set-number : (a : Answer) (g : Grammar) (k : ℕ) → set_number (set_or_refusal a g k) ≡ answer_number a
@@ -135,13 +135,13 @@ start-listed : (words matrix tokens cuts : List ℕ) (room : ℕ)
     → Memᴰ (answer_number (start_answer words matrix tokens cuts room)) (0 ∷ 15 ∷ 7 ∷ 8 ∷ 9 ∷ 10 ∷ 11 ∷ [])
 unfolding start_answer
 start-listed words matrix tokens cuts room =
-    staged (stages_of start_conditions) (and-stage (λ v. refl) (and-stage (λ v. refl) (and-stage (λ v. refl) (and-stage (λ v. refl) (and-stage (λ v. refl)
-    (and-stage (λ v. refl) no-stage)))))) (lent_to_start words matrix tokens cuts room)
+    staged (stages_of start_conditions) (and_stage (λ v. refl) (and_stage (λ v. refl) (and_stage (λ v. refl) (and_stage (λ v. refl) (and_stage (λ v. refl)
+    (and_stage (λ v. refl) no_stage)))))) (lent_to_start words matrix tokens cuts room)
 
 -- where there are no cuts, none is wrong
 uncut : {words matrix tokens : List ℕ} {room v : ℕ} → WrongCut (lent_to_start words matrix tokens [] room) v → ⊥
-uncut (too-many-cuts h) = omega arith
-uncut (cut-above few h q) = omega arith
+uncut (too_many_cuts h) = omega arith
+uncut (cut_above few h q) = omega arith
 uncut (cut_below few h q) = omega arith
 
 read-listed : {words matrix tokens : List ℕ} {room : ℕ} {answer : Answer} → Given (lent_to_start words matrix tokens [] room) start_conditions answer
@@ -152,28 +152,28 @@ read-listed (passes a (passes b (fails l))) = on (on (on here))
 read-listed (passes a (passes b (passes c (fails l)))) = on (on (on (on here)))
 read-listed (passes a (passes b (passes c (passes d (fails l))))) = absurd (uncut l.holds)
 read-listed (passes a (passes b (passes c (passes d (passes e (fails l)))))) = on (on (on (on (on here))))
-read-listed (passes a (passes b (passes c (passes d (passes e (passes f passes-all)))))) = here
+read-listed (passes a (passes b (passes c (passes d (passes e (passes f passes_all)))))) = here
 
 step-listed : {words matrix area : List ℕ} {c : ℕ} {answer : Answer} → StepGiven words matrix area c answer
     → Memᴰ (answer_number answer) (0 ∷ 15 ∷ 12 ∷ 13 ∷ [])
-step-listed (step-15 e) = on here
-step-listed (step-12 e h) = on (on here)
-step-listed (step-13 e h) = on (on (on here))
-step-listed (step-0 e m) = here
+step-listed (step_15 e) = on here
+step-listed (step_12 e h) = on (on here)
+step-listed (step_13 e h) = on (on (on here))
+step-listed (step_0 e m) = here
 
 run-listed : {words matrix area : List ℕ} {c budget : ℕ} {answer : RunAnswer} → RunGiven words matrix area c budget answer
     → Memᴰ (run_number answer) (0 ∷ 15 ∷ 12 ∷ 13 ∷ [])
-run-listed (run-15 e) = on here
-run-listed (run-12 e h) = on (on here)
-run-listed (run-13 e h) = on (on (on here))
-run-listed (run-0 e m) = here
+run-listed (run_15 e) = on here
+run-listed (run_12 e h) = on (on here)
+run-listed (run_13 e h) = on (on (on here))
+run-listed (run_0 e m) = here
 
 join-listed : {words matrix area : List ℕ} {c : ℕ} {answer : Answer} → JoinGiven words matrix area c answer
     → Memᴰ (answer_number answer) (0 ∷ 15 ∷ 12 ∷ 14 ∷ [])
-join-listed (join-15 e) = on here
-join-listed (join-12 e h) = on (on here)
-join-listed (join-14 e h) = on (on (on here))
-join-listed (join-0 e m) = here
+join-listed (join_15 e) = on here
+join-listed (join_12 e h) = on (on here)
+join-listed (join_14 e h) = on (on (on here))
+join-listed (join_0 e m) = here
 
 -- the numbers of a stuck row
 stuck-listed : (why : Stuck) (place : ℕ) {l : List ℕ} → Memᴰ (number_of (refusal_of why place)) (17 ∷ 18 ∷ 19 ∷ 20 ∷ l)
@@ -184,17 +184,17 @@ stuck-listed side_by_side place = on (on (on here))
 
 report-listed : {words matrix area : List ℕ} {room : ℕ} {answer : ReportAnswer} → ReportGiven words matrix area room answer
     → Memᴰ (report_number answer) (0 ∷ 15 ∷ 16 ∷ 17 ∷ 18 ∷ 19 ∷ 20 ∷ 11 ∷ [])
-report-listed (report-15 e) = on here
-report-listed (report-16 e h) = on (on here)
-report-listed (report-stuck e why place h) = on (on (on (stuck-listed why place)))
-report-listed (report-11 e entries moves h l) = on (on (on (on (on (on (on here))))))
-report-listed (report-0 e entries moves h l) = here
+report-listed (report_15 e) = on here
+report-listed (report_16 e h) = on (on here)
+report-listed (report_stuck e why place h) = on (on (on (stuck-listed why place)))
+report-listed (report_11 e entries moves h l) = on (on (on (on (on (on (on here))))))
+report-listed (report_0 e entries moves h l) = here
 
 -- what the one-call parse begins with: 1 to 9, 11 for its work area, or neither
 data BegunView (n room : ℕ) : Answer → Type 0 where
-  refused-low : {refusal : Refusal} (k : ℕ) → number_of refusal ≡ k → 1 ≤ k → k ≤ 9 → Memᴰ k (1 ∷ 2 ∷ 3 ∷ 4 ∷ 5 ∷ 6 ∷ 7 ∷ 8 ∷ 9 ∷ [])
+  refused_low : {refusal : Refusal} (k : ℕ) → number_of refusal ≡ k → 1 ≤ k → k ≤ 9 → Memᴰ k (1 ∷ 2 ∷ 3 ∷ 4 ∷ 5 ∷ 6 ∷ 7 ∷ 8 ∷ 9 ∷ [])
       → BegunView n room (Refused refusal)
-  area-short : {v : ℕ} → room < need n 1 → BegunView n room (Refused (NoRoom v))
+  area_short : {v : ℕ} → room < need n 1 → BegunView n room (Refused (NoRoom v))
   begun : need n 1 ≤ room → BegunView n room Done
 
 module _ (words tokens : List ℕ) (room : ℕ) where
@@ -202,12 +202,12 @@ module _ (words tokens : List ℕ) (room : ℕ) where
   own_matrix = matrix_of (grammar_of words)
 
   loaded : {refusal : Refusal} → Given (lent_to_load words 4096) load_conditions (Refused refusal) → BegunView (length tokens) room (Refused refusal)
-  loaded (fails l) = refused-low 1 refl (omega arith) (omega arith) here
-  loaded (passes a (fails l)) = refused-low 2 refl (omega arith) (omega arith) (on here)
-  loaded (passes a (passes b (fails l))) = refused-low 3 refl (omega arith) (omega arith) (on (on here))
-  loaded (passes a (passes b (passes c (fails l)))) = refused-low 4 refl (omega arith) (omega arith) (on (on (on here)))
-  loaded (passes a (passes b (passes c (passes d (fails l))))) = refused-low 5 refl (omega arith) (omega arith) (on (on (on (on here))))
-  loaded (passes a (passes b (passes c (passes d (passes e (fails l)))))) = refused-low 6 refl (omega arith) (omega arith) (on (on (on (on (on here)))))
+  loaded (fails l) = refused_low 1 refl (omega arith) (omega arith) here
+  loaded (passes a (fails l)) = refused_low 2 refl (omega arith) (omega arith) (on here)
+  loaded (passes a (passes b (fails l))) = refused_low 3 refl (omega arith) (omega arith) (on (on here))
+  loaded (passes a (passes b (passes c (fails l)))) = refused_low 4 refl (omega arith) (omega arith) (on (on (on here)))
+  loaded (passes a (passes b (passes c (passes d (fails l))))) = refused_low 5 refl (omega arith) (omega arith) (on (on (on (on here))))
+  loaded (passes a (passes b (passes c (passes d (passes e (fails l)))))) = refused_low 6 refl (omega arith) (omega arith) (on (on (on (on (on here)))))
   loaded (passes a (passes b (passes c (passes d (passes e (passes f (fails l))))))) = absurd (short l.holds)
     where
       short : {v : ℕ} → NoRoomForMatrix (lent_to_load words 4096) v → ⊥
@@ -219,12 +219,12 @@ module _ (words tokens : List ℕ) (room : ℕ) where
   started shape (fails l) = absurd (fits l.holds)
     where
       fits : {v : ℕ} → GrammarBroken (lent_to_start words own_matrix tokens [] room) v → ⊥
-      fits (grammar-broken f q) = true≢false (sym shape ∙ f)
-  started shape (passes a (fails l)) = refused-low 7 refl (omega arith) (omega arith) (on (on (on (on (on (on here))))))
-  started shape (passes a (passes b (fails l))) = refused-low 8 refl (omega arith) (omega arith) (on (on (on (on (on (on (on here)))))))
-  started shape (passes a (passes b (passes c (fails l)))) = refused-low 9 refl (omega arith) (omega arith) (on (on (on (on (on (on (on (on here))))))))
+      fits (grammar_broken f q) = true≢false (sym shape ∙ f)
+  started shape (passes a (fails l)) = refused_low 7 refl (omega arith) (omega arith) (on (on (on (on (on (on here))))))
+  started shape (passes a (passes b (fails l))) = refused_low 8 refl (omega arith) (omega arith) (on (on (on (on (on (on (on here)))))))
+  started shape (passes a (passes b (passes c (fails l)))) = refused_low 9 refl (omega arith) (omega arith) (on (on (on (on (on (on (on (on here))))))))
   started shape (passes a (passes b (passes c (passes d (fails l))))) = absurd (uncut l.holds)
-  started shape (passes a (passes b (passes c (passes d (passes e (fails l)))))) = area-short (short l.holds)
+  started shape (passes a (passes b (passes c (passes d (passes e (fails l)))))) = area_short (short l.holds)
     where
       short : {v : ℕ} → NoRoomForRow (lent_to_start words own_matrix tokens [] room) v → room < need (length tokens) 1
       short (no_room h q) = h
@@ -233,19 +233,19 @@ module _ (words tokens : List ℕ) (room : ℕ) where
   begun-view : BegunView (length tokens) room (parse_begun words tokens room)
   begun-view = by-load (load_answer words 4096) refl
     where
-      by-start : load_answer words 4096 ≡ Done → (a : Answer) → start_answer words own_matrix tokens [] room ≡ a
+      by_start : load_answer words 4096 ≡ Done → (a : Answer) → start_answer words own_matrix tokens [] room ≡ a
           → BegunView (length tokens) room (parse_begun words tokens room)
-      by-start e (Refused refusal) f =
+      by_start e (Refused refusal) f =
           rw (refused-by-start words tokens room e f)
           (started (own-shape ((accepted-exactly words 4096).0 e).0) ((start-given words own_matrix tokens [] room (Refused refusal)).0 f))
-      by-start e Done f =
+      by_start e Done f =
           let can = (starts-exactly words own_matrix tokens [] room).0 f in
-          let h : room < need (length tokens) 1 → ⊥ = λ l. can.room-enough (need (length tokens) 1) (no_room l refl) in
+          let h : room < need (length tokens) 1 → ⊥ = λ l. can.room_enough (need (length tokens) 1) (no_room l refl) in
           rw (parse-begins words tokens room (record { loads = e; starts = f })) (begun (omega arith))
 
       by-load : (a : Answer) → load_answer words 4096 ≡ a → BegunView (length tokens) room (parse_begun words tokens room)
       by-load (Refused refusal) e = rw (refused-by-load words tokens room e) (loaded ((load_given words 4096 (Refused refusal)).0 e))
-      by-load Done e = by-start e (start_answer words own_matrix tokens [] room) refl
+      by-load Done e = by_start e (start_answer words own_matrix tokens [] room) refl
 
 -- in a list that goes on
 mem-append : {n : ℕ} {l : List ℕ} → Memᴰ n l → (m : List ℕ) → Memᴰ n (l ++ m)
@@ -256,16 +256,16 @@ abbrev parse_numbers : List ℕ
 parse_numbers = 0 ∷ 1 ∷ 2 ∷ 3 ∷ 4 ∷ 5 ∷ 6 ∷ 7 ∷ 8 ∷ 9 ∷ 11 ∷ 17 ∷ 18 ∷ 19 ∷ 20 ∷ 11 ∷ []
 
 begun-listed : {n room : ℕ} {refusal : Refusal} → BegunView n room (Refused refusal) → Memᴰ (number_of refusal) parse_numbers
-begun-listed (refused-low k e low high m) = rw e (on (mem-append m (11 ∷ 17 ∷ 18 ∷ 19 ∷ 20 ∷ 11 ∷ [])))
-begun-listed (area-short h) = on (on (on (on (on (on (on (on (on (on here)))))))))
+begun-listed (refused_low k e low high m) = rw e (on (mem-append m (11 ∷ 17 ∷ 18 ∷ 19 ∷ 20 ∷ 11 ∷ [])))
+begun-listed (area_short h) = on (on (on (on (on (on (on (on (on (on here)))))))))
 
 parse-listed : {words tokens : List ℕ} {room out_room : ℕ} {answer : ReportAnswer} → ParseGiven words tokens room out_room answer
     → Memᴰ (report_number answer) parse_numbers
-parse-listed {words} {tokens} {room} (parse-words e) = begun-listed (rw (refused-by-load words tokens room e) at (begun-view words tokens room))
-parse-listed {words} {tokens} {room} (parse-row e f) = begun-listed (rw (refused-by-start words tokens room e f) at (begun-view words tokens room))
-parse-listed (parse-stuck b reader why place h) = on (on (on (on (on (on (on (on (on (on (on (stuck-listed why place)))))))))))
-parse-listed (parse-11 b reader entries moves h l) = on (on (on (on (on (on (on (on (on (on here)))))))))
-parse-listed (parse-0 b reader entries moves h l) = here
+parse-listed {words} {tokens} {room} (parse_words e) = begun-listed (rw (refused-by-load words tokens room e) at (begun-view words tokens room))
+parse-listed {words} {tokens} {room} (parse_row e f) = begun-listed (rw (refused-by-start words tokens room e f) at (begun-view words tokens room))
+parse-listed (parse_stuck b reader why place h) = on (on (on (on (on (on (on (on (on (on (on (stuck-listed why place)))))))))))
+parse-listed (parse_11 b reader entries moves h l) = on (on (on (on (on (on (on (on (on (on here)))))))))
+parse-listed (parse_0 b reader entries moves h l) = here
 
 -- a call answers 0 or one of its listed numbers, and no other
 pub number-listed : (call : PublicCall) → Memᴰ (number_for call) (0 ∷ numbers_for call)
@@ -274,7 +274,7 @@ number-listed (value-of refusal) = here
 number-listed (stuck-refusal status place) = here
 number-listed (check-symbols words) = symbols-listed words
 number-listed (check-words words) = words-listed words
-number-listed (body_of words r) = here
+number-listed (body-of words r) = here
 number-listed (load words bytes) = load-listed words bytes
 number-listed (left-set words k) = left-listed words k
 number-listed (right-set words k) = right-listed words k
@@ -284,8 +284,8 @@ number-listed (start words matrix tokens cuts area) = start-listed words matrix 
 number-listed (step words matrix area c) = step-listed ((given-for (step words matrix area c) (step_answer words matrix area c)).0 refl)
 number-listed (run words matrix area c budget) = run-listed ((given-for (run words matrix area c budget) (run_answer words matrix area c budget)).0 refl)
 number-listed (join words matrix area c) = join-listed ((given-for (join words matrix area c) (join_answer words matrix area c)).0 refl)
-number-listed (read_through words matrix tokens area) =
-    read-listed ((given-for (read_through words matrix tokens area) (read_answer words matrix tokens (length area))).0 refl)
+number-listed (read-through words matrix tokens area) =
+    read-listed ((given-for (read-through words matrix tokens area) (read_answer words matrix tokens (length area))).0 refl)
 number-listed (report words matrix area out) = report-listed ((given-for (report words matrix area out) (report_answer words matrix area (length out))).0 refl)
 number-listed (parse words tokens area out) =
     parse-listed ((given-for (parse words tokens area out) (parse_answer words tokens (length area) (length out))).0 refl)
@@ -344,7 +344,7 @@ lent-kept (value-of refusal) h m = no_run m
 lent-kept (stuck-refusal status place) h m = no_run m
 lent-kept (check-symbols words) h m = no_run m
 lent-kept (check-words words) h m = no_run m
-lent-kept (body_of words r) h m = no_run m
+lent-kept (body-of words r) h m = no_run m
 lent-kept (load words bytes) h m = one-run Same (load_kept (load_answer words (length bytes)) words bytes h) m
 lent-kept (left-set words k) h m = no_run m
 lent-kept (right-set words k) h m = no_run m
@@ -354,7 +354,7 @@ lent-kept (start words matrix tokens cuts area) h m = one-run Same (start-kept (
 lent-kept (step words matrix area c) h m = one-run Same (called-kept (step_call words matrix area c) area h) m
 lent-kept (run words matrix area c budget) h m = one-run Same (ran-kept (run_call words matrix area c budget) area h) m
 lent-kept (join words matrix area c) h m = one-run Same (called-kept (join_call words matrix area c) area h) m
-lent-kept (read_through words matrix tokens area) h m = one-run Same (read_kept (read_answer words matrix tokens (length area)) words matrix tokens area h) m
+lent-kept (read-through words matrix tokens area) h m = one-run Same (read_kept (read_answer words matrix tokens (length area)) words matrix tokens area h) m
 lent-kept (report words matrix area out) h m = one-run Same (outcome-kept (report_outcome words matrix area) out h) m
 lent-kept (parse words tokens area out) h m =
     one-run Same (parsed-kept (parse_begun words tokens (length area)) (parse_outcome words tokens) out h) m
@@ -398,11 +398,11 @@ module _ (words matrix area : List ℕ) (low : get_or area 2 0 < 65536) where
         → drop (need_in area) (called_area x area) ≡ drop (need_in area) area
     called-beyond (refused refusal) turns = refl
     called-beyond (became s') turns =
-        let t = turns s' refl in state-beyond s' (safe-turned words matrix grammar holds.kept t) (same_number t ∙ holds.chunks-are)
+        let t = turns s' refl in state-beyond s' (safe-turned words matrix grammar holds.kept t) (same_number t ∙ holds.chunks_are)
 
     scheduled-number : {i : ℕ} {s s' : State Span} → Schedule (table_of words matrix) s i s' → length s'.chunks ≡ length s.chunks
-    scheduled-number no-turn = refl
-    scheduled-number (one-turn t turns) = scheduled-number turns ∙ same_number t
+    scheduled-number no_turn = refl
+    scheduled-number (one_turn t turns) = scheduled-number turns ∙ same_number t
 
     ran-beyond : (c budget : ℕ) (x : Ran Span) → States.run (table_of words matrix) c budget (decode area) ≡ x
         → drop (need_in area) (ran_area x area) ≡ drop (need_in area) area
@@ -410,7 +410,7 @@ module _ (words matrix area : List ℕ) (low : get_or area 2 0 < 65536) where
     ran-beyond c budget (ran j s') q =
         let m = (run-exactly (table_of words matrix) c budget (decode area) j s').0 q in
         state-beyond s' (safe-run words matrix grammar c budget holds.kept q)
-        (scheduled-number (made-scheduled (table_of words matrix) c m.made) ∙ holds.chunks-are)
+        (scheduled-number (made-scheduled (table_of words matrix) c m.made) ∙ holds.chunks_are)
 
   -- 15, or the machine's call x on an area in shape
   call-beyond : (call x : Called Span) → (in_shape words matrix area ≡ false → call ≡ refused BadState) → (in_shape words matrix area ≡ true → call ≡ x)
@@ -425,13 +425,13 @@ module _ (words matrix area : List ℕ) (low : get_or area 2 0 < 65536) where
   unfolding step_area
   step-beyond c =
       call-beyond (step_call words matrix area c) (States.step (table_of words matrix) c (decode area))
-      (step-broken words matrix area c) (step-in-shape words matrix area c) (λ s' q. by-step c q)
+      (step-broken words matrix area c) (step-in-shape words matrix area c) (λ s' q. by_step c q)
 
   join-beyond : (c : ℕ) → drop (need_in area) (join_area words matrix area c) ≡ drop (need_in area) area
   unfolding join_area
   join-beyond c =
       call-beyond (join_call words matrix area c) (States.join c (decode area))
-      (join-broken words matrix area c) (join-in-shape words matrix area c) (λ s' q. by-join c q)
+      (join-broken words matrix area c) (join-in-shape words matrix area c) (λ s' q. by_join c q)
 
   run-beyond : (c budget : ℕ) → drop (need_in area) (run_area words matrix area c budget) ≡ drop (need_in area) area
   unfolding run_area
@@ -497,7 +497,7 @@ beyond-kept (value-of refusal) m = no_run m
 beyond-kept (stuck-refusal status place) m = no_run m
 beyond-kept (check-symbols words) m = no_run m
 beyond-kept (check-words words) m = no_run m
-beyond-kept (body_of words r) m = no_run m
+beyond-kept (body-of words r) m = no_run m
 beyond-kept (load words bytes) m = one-run Beyond (λ low. load-beyond (load_answer words (length bytes)) words bytes) m
 beyond-kept (left-set words k) m = no_run m
 beyond-kept (right-set words k) m = no_run m
@@ -508,7 +508,7 @@ beyond-kept (start words matrix tokens cuts area) m =
 beyond-kept (step words matrix area c) m = one-run Beyond (λ low. step-beyond words matrix area low c) m
 beyond-kept (run words matrix area c budget) m = one-run Beyond (λ low. run-beyond words matrix area low c budget) m
 beyond-kept (join words matrix area c) m = one-run Beyond (λ low. join-beyond words matrix area low c) m
-beyond-kept (read_through words matrix tokens area) m =
+beyond-kept (read-through words matrix tokens area) m =
     one-run Beyond (λ low. read-beyond words matrix tokens area (read_answer words matrix tokens (length area)) refl) m
 beyond-kept (report words matrix area out) m = one-run Beyond (λ low. outcome-beyond (report_outcome words matrix area) out) m
 beyond-kept (parse words tokens area out) m =
@@ -524,21 +524,21 @@ module _ (words tokens area out : List ℕ) where
 
   refused-short : {a : Answer} → parse_begun words tokens (length area) ≡ a → BegunView (length tokens) (length area) a → length area < need (length tokens) 1
       → parse_area words tokens area ≡ area
-  refused-short e (refused-low k q low high m) h = area-stays words tokens area out e
-  refused-short e (area-short l) h = area-stays words tokens area out e
+  refused-short e (refused_low k q low high m) h = area-stays words tokens area out e
+  refused-short e (area_short l) h = area-stays words tokens area out e
   refused-short e (begun l) h = absurd (omega arith)
 
   used : {a : Answer} → parse_begun words tokens (length area) ≡ a → BegunView (length tokens) (length area) a
       → (number_for (parse words tokens area out) ≡ 0) ⊎ (9 < number_for (parse words tokens area out)) → need (length tokens) 1 ≤ length area
       → parse_area words tokens area ≡ zeros (need (length tokens) 1) ++ drop (need (length tokens) 1) area
-  used e (refused-low k q low high m) (inl z) h = let n = ap report_number (parse-refused words tokens (length area) (length out) e) in absurd (omega arith)
-  used e (refused-low k q low high m) (inr z) h = let n = ap report_number (parse-refused words tokens (length area) (length out) e) in absurd (omega arith)
-  used e (area-short l) z h = absurd (omega arith)
+  used e (refused_low k q low high m) (inl z) h = let n = ap report_number (parse-refused words tokens (length area) (length out) e) in absurd (omega arith)
+  used e (refused_low k q low high m) (inr z) h = let n = ap report_number (parse-refused words tokens (length area) (length out) e) in absurd (omega arith)
+  used e (area_short l) z h = absurd (omega arith)
   used e (begun l) z h = area-used e
 
   pub parse-area-left : ParseAreaLeft words tokens area out
   parse-area-left = record {
-    after-1-to-9 = refused-first words tokens area out ((given-for (parse words tokens area out) (parse_answer words tokens (length area) (length out))).0 refl);
+    after_1_to_9 = refused-first words tokens area out ((given-for (parse words tokens area out) (parse_answer words tokens (length area) (length out))).0 refl);
     too_short = refused-short refl (begun-view words tokens (length area));
-    once-used = used refl (begun-view words tokens (length area));
+    once_used = used refl (begun-view words tokens (length area));
   }

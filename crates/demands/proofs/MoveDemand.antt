@@ -11,7 +11,7 @@ use Rattle.refusals.specs.declared.RunAnswer.TheVariants as runs
 use Rattle.language.specs.Trees.{Span}
 use Rattle.machine.specs.States.{State, Called, refused, became, Ran, refused_run, ran, step, run, join}
 use Rattle.machine.specs.TableOf.{table_of}
-use Rattle.machine.specs.Schedules.{Turned, by-step, by-join}
+use Rattle.machine.specs.Schedules.{Turned, by_step, by_join}
 use Rattle.machine.specs.Allowed.{Steps, JoinsAt}
 use Rattle.machine.proofs.AllowedExactly.{step-exactly, join-exactly}
 use Rattle.machine.specs.Counts.{RunNamed}
@@ -59,7 +59,7 @@ module _ (words matrix : List ℕ) (grammar : grammar_in_shape words matrix ≡ 
   pub step-demand : (c : ℕ) (s' : State Span) → StepLeaves words matrix area rest n c s' ↔ Steps (table_of words matrix) c s s'
   unfolding step_answer step_area
   step-demand c s' =
-      let called = called-demand (step (table_of words matrix) c s) s' (step_is words matrix grammar safe rest c) (λ s'' q. by-step c q) in
+      let called = called-demand (step (table_of words matrix) c s) s' (step_is words matrix grammar safe rest c) (λ s'' q. by_step c q) in
       let exactly = step-exactly (table_of words matrix) c s s' in
       ((λ h. exactly.1 (called.0 h)), (λ m. called.1 (exactly.0 m)))
 
@@ -94,7 +94,7 @@ module _ (words matrix : List ℕ) (grammar : grammar_in_shape words matrix ≡ 
   pub join-demand : (c : ℕ) (s' : State Span) → JoinLeaves words matrix area rest n c s' ↔ JoinsAt c s s'
   unfolding join_answer join_area
   join-demand c s' =
-      let called = called-demand (join c s) s' (join_is words matrix grammar safe rest c) (λ s'' q. by-join c q) in
+      let called = called-demand (join c s) s' (join_is words matrix grammar safe rest c) (λ s'' q. by_join c q) in
       let exactly = join-exactly c s s' in
       ((λ h. exactly.1 (called.0 h)), (λ m. called.1 (exactly.0 m)))
 

@@ -3,7 +3,7 @@
 -- that keeps the rules of docs/AREA.md, with any words and matrix that do.
 -- Rests on moving's OnWords, which says the same of step, run and join, and on report's ReportCall.
 --
--- Main statement: report-is.
+-- Main statement: report_is.
 use Rattle.std.specs.Prelude.{◌≡◌, true, List, ◌++◌, ℕ}
 use Rattle.std.proofs.Common.{ap, ◌∙◌}
 use Rattle.language.specs.Trees.{Span}
@@ -15,5 +15,5 @@ use Rattle.moving.specs.OnWords.{stands, reads}
 use Rattle.report.specs.ReportCall.{report_outcome, report-in-shape}
 
 module _ (words matrix : List ℕ) (grammar : grammar_in_shape words matrix ≡ true) {n : ℕ} {s : State Span} (safe : Safe words n s) (rest : List ℕ) where
-  pub report-is : report_outcome words matrix (encode n s ++ rest) ≡ outcome s
-  report-is = report-in-shape words matrix (encode n s ++ rest) (stands words matrix grammar safe rest) ∙ ap outcome (reads words matrix grammar safe rest)
+  pub report_is : report_outcome words matrix (encode n s ++ rest) ≡ outcome s
+  report_is = report-in-shape words matrix (encode n s ++ rest) (stands words matrix grammar safe rest) ∙ ap outcome (reads words matrix grammar safe rest)

@@ -62,9 +62,9 @@ module _ {words : List ℕ} (accepted : Accepted words) {tokens : List ℕ} (rig
       pub parse-reports : (t : AxiomTree (grammar_of words) tokens) → ParseReports words tokens room out (entries_of t) reader.moves
       parse-reports t = written accepted right reader room enough out long (report-of-tree (own-laws accepted) (own-end-mark accepted) (λ r vs. refl) tokens (tokens-no-end accepted right) reader.reading t)
 
-      got-stuck : {refusal : Refusal} → FirstRefusal (length tokens) refusal → outcome reader.last ≡ refused_row refusal
+      got_stuck : {refusal : Refusal} → FirstRefusal (length tokens) refusal → outcome reader.last ≡ refused_row refusal
           → GotStuck tokens reader.last refusal
-      got-stuck {refusal} first e = go (outcome-refuses reader.last refusal e)
+      got_stuck {refusal} first e = go (outcome-refuses reader.last refusal e)
         where
           go : (refusal ≡ Unfinished) ⊎ ((why : Stuck) × (place : ℕ) × (refusal ≡ refusal_of why place)) → GotStuck tokens reader.last refusal
           go (inl z) = let n = (first-refusal-number first).0 in let y = ap number_of z in absurd (omega arith)
@@ -73,11 +73,11 @@ module _ {words : List ℕ} (accepted : Accepted words) {tokens : List ℕ} (rig
               record {
                 why = why;
                 place = place;
-                stuck-so = (stuck-exactly reader.last why place).0 (e ∙ ap refused_row z);
+                stuck_so = (stuck-exactly reader.last why place).0 (e ∙ ap refused_row z);
                 refusal_is = z;
-                number-low = n.0;
-                number-high = n.1;
-                place-within = let v = ap value_of z ∙ value-stuck why place in omega (arith, n.2);
+                number_low = n.0;
+                number_high = n.1;
+                place_within = let v = ap value_of z ∙ value-stuck why place in omega (arith, n.2);
               }
 
       -- a row that no axiom derives is refused as the reader gets stuck: 17, 18 or 19, never 16 or 20; the report run stays
@@ -87,7 +87,7 @@ module _ {words : List ℕ} (accepted : Accepted words) {tokens : List ℕ} (rig
       parse-refuses never =
           let r = (refused-exactly (own-laws accepted) (own-end-mark accepted) (λ r vs. refl) tokens (tokens-no-end accepted right) reader.reading).0 never in
           let w = refused-with r.2 in
-          (r.0, got-stuck r.1 r.2, w.0, w.1)
+          (r.0, got_stuck r.1 r.2, w.0, w.1)
 
       -- accepted exactly when an axiom derives the tokens
       pub parse-accepts-exactly : (report_number (parse_answer words tokens room (length out)) ≡ 0) ↔ InLanguage (grammar_of words) tokens
@@ -105,5 +105,5 @@ module _ {words : List ℕ} (accepted : Accepted words) {tokens : List ℕ} (rig
               absurd (omega arith)
 
   -- one tree only
-  pub one-tree-only : (t t' : AxiomTree (grammar_of words) tokens) → t.of-root.tree ≡ t'.of-root.tree
+  pub one-tree-only : (t t' : AxiomTree (grammar_of words) tokens) → t.of_root.tree ≡ t'.of_root.tree
   one-tree-only = one-axiom-tree (own-laws accepted) (own-end-mark accepted) (λ r vs. refl) tokens (tokens-no-end accepted right)

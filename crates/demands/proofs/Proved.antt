@@ -42,8 +42,8 @@ demand-1 call = record {
   one_only = one-answer-only call;
   listed = number-listed call;
   given = given-for call;
-  refused-keeps = lent-kept call;
-  beyond-keeps = beyond-kept call;
+  refused_keeps = lent-kept call;
+  beyond_keeps = beyond-kept call;
 }
 
 pub demand-1-parse : Demand1Parse
@@ -56,9 +56,9 @@ demand-2-parse words bytes tokens loads right room enough out long =
     record {
       accepts = parse-accepts-exactly a right reading room enough out long;
       reader = reading;
-      one-reading = λ r. read-once (own_table words) r reading.reading;
+      one_reading = λ r. read-once (own_table words) r reading.reading;
       reports = parse-reports a right reading room enough out long;
-      one-tree = one-tree-only a right;
+      one_tree = one-tree-only a right;
       refuses = parse-refuses a right reading room enough out long;
     }
 
@@ -69,8 +69,8 @@ demand-2-moves words matrix area low shape =
     let s : State Span = decode area in
     let beyond : List ℕ = beyond_in area in
     record {
-      words-of = h.2;
-      keeps-rules = h.1;
+      words_of = h.2;
+      keeps_rules = h.1;
       steps = λ c s'.
           subst (λ a. StepLeaves words matrix a beyond n c s' ↔ Steps (table_of words matrix) c s s') (sym h.2)
           (step-demand words matrix h.0 h.1 beyond c s');
@@ -81,30 +81,30 @@ demand-2-moves words matrix area low shape =
     }
 
 pub demand-2-reached : Demand2Reached
-demand-2-reached words bytes tokens cuts area₀ begun calls own matrix of-load =
-    demand-2-moves words matrix (area_after words area₀ calls) (low-there begun own) (in-shape-there begun own matrix of-load)
+demand-2-reached words bytes tokens cuts area₀ begun calls own matrix of_load =
+    demand-2-moves words matrix (area_after words area₀ calls) (low-there begun own) (in-shape-there begun own matrix of_load)
 
 pub demand-3 : Demand3
 demand-3 words bytes tokens cuts area₀ begun calls own = record {
   reached = standing-after begun own;
-  each-call = each_right begun own;
-  report-not-15 = report-never-15 begun own;
+  each_call = each_right begun own;
+  report_not_15 = report-never-15 begun own;
   goes_on = some-move begun own;
   rests = finished-stays begun own;
   counted = moves-counted begun own;
   few = moves-few begun own;
-  report-count = report-counts begun own;
-  same-as-parse = same-report begun own;
+  report_count = report-counts begun own;
+  same_as_parse = same-report begun own;
   same_outcome = same-but-moves begun own;
 }
 
 pub demand-3-finishes : Demand3Finishes
-demand-3-finishes words bytes tokens cuts area₀ begun matrix of-load room = record {
-  every-schedule = goes-on-finishes begun matrix of-load room;
+demand-3-finishes words bytes tokens cuts area₀ begun matrix of_load room = record {
+  every_schedule = goes-on-finishes begun matrix of_load room;
   no_longer = lists-end begun;
-  from-anywhere = can-finish begun matrix of-load room;
+  from_anywhere = can-finish begun matrix of_load room;
 }
 
 pub start-never-15 : StartNever15
-start-never-15 words bytes matrix loads of-load tokens cuts room e =
-    true≢false (sym (shape_is words bytes loads matrix of-load) ∙ (bad-state-given words matrix tokens cuts room).0 e)
+start-never-15 words bytes matrix loads of_load tokens cuts room e =
+    true≢false (sym (shape_is words bytes loads matrix of_load) ∙ (bad-state-given words matrix tokens cuts room).0 e)

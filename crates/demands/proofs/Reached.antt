@@ -20,30 +20,30 @@ use Rattle.shape.specs.Encoded.{moves-at, low-moves-at}
 use Rattle.area.specs.Shape.{in_shape}
 use Rattle.start.specs.StartKept.{no_end}
 use Rattle.report.specs.ReportCall.{report_outcome, report_answer}
-use Rattle.demands.specs.Calls.{Call, matrix_for, call_number, call_made, call_area, area_after, moves_made, OfLoad, AllOfLoad, no_call, and-call, Begun}
+use Rattle.demands.specs.Calls.{Call, matrix_for, call_number, call_made, call_area, area_after, moves_made, OfLoad, AllOfLoad, no_call, and_call, Begun}
 use Rattle.machine.specs.TableOf.{own_table}
 use Rattle.machine.proofs.TableOf.{own-end-mark}
 use Rattle.demands.proofs.OwnMatrix.{accepted, shape_is}
 use Rattle.moving.specs.OnWords.{stands}
-use Rattle.demands.proofs.OnWords.{report-is}
-use Rattle.demands.specs.Standing.{Standing, CallView, refused-so, moved-so}
+use Rattle.demands.proofs.OnWords.{report_is}
+use Rattle.demands.specs.Standing.{Standing, CallView, refused_so, moved_so}
 use Rattle.demands.proofs.Standing.{startable, standing-begun, standing-safe, standing-view, standing-call, standing-after}
-use Rattle.demands.specs.Reached.{EachRight, OutcomeNumber, and_right, at-17-20, no_more, number-0, number-11, number-16, number-stuck}
+use Rattle.demands.specs.Reached.{EachRight, OutcomeNumber, and_right, at-17-20, no_more, number_0, number_11, number_16, number_stuck}
 
 pub outcome-number : (s : State Span) (room : ℕ) → OutcomeNumber (outcome s) room
 outcome-number s room = go (outcome s) refl
   where
     written : (entries : List (Reduction Span)) (moves : ℕ) (b : Bool) → ltb room (3 * length entries) ≡ b → OutcomeNumber (reported entries moves) room
-    written entries moves true q = number-11 (rw (q, outcome_answer))
-    written entries moves false q = number-0 (rw (q, outcome_answer))
+    written entries moves true q = number_11 (rw (q, outcome_answer))
+    written entries moves false q = number_0 (rw (q, outcome_answer))
 
     of : (refusal : Refusal) → (refusal ≡ Unfinished) ⊎ ((why : Stuck) × (place : ℕ) × (refusal ≡ refusal_of why place))
         → OutcomeNumber (refused_row refusal) room
-    of refusal (inl e) = number-16 (ap refused_row e) (ap number_of e)
+    of refusal (inl e) = number_16 (ap refused_row e) (ap number_of e)
     of refusal (inr (why, place, e)) =
         let n = at-17-20 why place in
         let z : number_of refusal ≡ number_of (refusal_of why place) = ap number_of e in
-        number-stuck (omega arith) (omega arith)
+        number_stuck (omega arith) (omega arith)
 
     go : (o : Outcome) → outcome s ≡ o → OutcomeNumber o room
     go (refused_row refusal) q = of refusal (outcome-refuses s refusal q)
@@ -51,21 +51,21 @@ outcome-number s room = go (outcome s) refl
 
 viewed-never-15 : {words : List ℕ} {n : ℕ} {s : State Span} {rest area : List ℕ} {call : Call} → CallView words n s rest area call
     → call_number words area call ≡ 15 → ⊥
-viewed-never-15 (refused-so low high none_made same) e = omega arith
-viewed-never-15 (moved-so s' zero_is is turns) e = omega arith
+viewed-never-15 (refused_so low high none_made same) e = omega arith
+viewed-never-15 (moved_so s' zero_is is turns) e = omega arith
 
 viewed-stays : {words : List ℕ} {n : ℕ} {s : State Span} {rest area : List ℕ} {call : Call} → CallView words n s rest area call
     → (call_number words area call ≡ 0 → ⊥) → (call_area words area call ≡ area) × (call_made words area call ≡ 0)
-viewed-stays (refused-so low high none_made same) h = (same, none_made)
-viewed-stays (moved-so s' zero_is is turns) h = absurd (h zero_is)
+viewed-stays (refused_so low high none_made same) h = (same, none_made)
+viewed-stays (moved_so s' zero_is is turns) h = absurd (h zero_is)
 
 module _ {words bytes tokens cuts area₀ : List ℕ} (begun : Begun words bytes tokens cuts area₀) where
   right-from : {area : List ℕ} {made : ℕ} → Standing words tokens cuts area made → {calls : List Call} → AllOfLoad words bytes calls
       → EachRight words area calls
   right-from h no_call = no_more
-  right-from {area} h (and-call {call = call} of-load all) =
-      let view = standing-view begun h call of-load in
-      and_right (viewed-never-15 view) (λ n. (viewed-stays view n).0) (right-from {area = call_area words area call} (standing-call begun h call of-load) all)
+  right-from {area} h (and_call {call = call} of_load all) =
+      let view = standing-view begun h call of_load in
+      and_right (viewed-never-15 view) (λ n. (viewed-stays view n).0) (right-from {area = call_area words area call} (standing-call begun h call of_load) all)
 
   -- (a) none answers 15, and a refused one changes nothing: of each call of a list
   pub each_right : {calls : List Call} → AllOfLoad words bytes calls → EachRight words area₀ calls
@@ -80,24 +80,24 @@ module _ {words bytes tokens cuts area₀ : List ℕ} (begun : Begun words bytes
 
   -- .. and of the next call after it
   pub never-15 : (call : Call) → OfLoad words bytes (matrix_for call) → call_number words area call ≡ 15 → ⊥
-  never-15 call of-load = viewed-never-15 (standing-view begun there call of-load)
+  never-15 call of_load = viewed-never-15 (standing-view begun there call of_load)
 
   pub refused-changes-nothing : (call : Call) → OfLoad words bytes (matrix_for call) → (call_number words area call ≡ 0 → ⊥)
       → (call_area words area call ≡ area) × (call_made words area call ≡ 0)
-  refused-changes-nothing call of-load = viewed-stays (standing-view begun there call of-load)
+  refused-changes-nothing call of_load = viewed-stays (standing-view begun there call of_load)
 
-  module _ (matrix : List ℕ) (of-load : OfLoad words bytes matrix) where
+  module _ (matrix : List ℕ) (of_load : OfLoad words bytes matrix) where
     -- what the report is made of: the state's outcome
     pub report-there : report_outcome words matrix area ≡ outcome there.state
     report-there =
-        ap (λ a. report_outcome words matrix a) there.area-is
-        ∙ report-is words matrix (shape_is words bytes begun.loads matrix of-load) (standing-safe begun there) there.rest
+        ap (λ a. report_outcome words matrix a) there.area_is
+        ∙ report_is words matrix (shape_is words bytes begun.loads matrix of_load) (standing-safe begun there) there.rest
 
     -- the area keeps the shape rules
     pub in-shape-there : in_shape words matrix area ≡ true
     in-shape-there =
-        ap (λ a. in_shape words matrix a) there.area-is
-        ∙ stands words matrix (shape_is words bytes begun.loads matrix of-load) (standing-safe begun there) there.rest
+        ap (λ a. in_shape words matrix a) there.area_is
+        ∙ stands words matrix (shape_is words bytes begun.loads matrix of_load) (standing-safe begun there) there.rest
 
     pub report-number : (room : ℕ) → report_number (report_answer words matrix area room) ≡ report_number (outcome_answer (outcome there.state) room)
     unfolding report_answer
@@ -108,15 +108,15 @@ module _ {words bytes tokens cuts area₀ : List ℕ} (begun : Begun words bytes
     report-never-15 room e = go (outcome-number there.state room) (sym (report-number room) ∙ e)
       where
         go : {o : Outcome} → OutcomeNumber o room → report_number (outcome_answer o room) ≡ 15 → ⊥
-        go (number-16 q e) h = omega arith
-        go (number-stuck a b) h = omega arith
-        go (number-11 e) h = omega arith
-        go (number-0 e) h = omega arith
+        go (number_16 q e) h = omega arith
+        go (number_stuck a b) h = omega arith
+        go (number_11 e) h = omega arith
+        go (number_0 e) h = omega arith
 
   -- (c) steps accepted + answers of runs + joins accepted = the area's count
   pub moves-counted : moves_in area ≡ moves_made words area₀ calls
   moves-counted =
-      ap moves_in there.area-is ∙ moves-at (length tokens) there.state there.rest
+      ap moves_in there.area_is ∙ moves-at (length tokens) there.state there.rest
       ∙ moves-since-start (own_table words) tokens cuts there.turns
 
   -- .. at most nC + n + 4C - 2, C a chunk more than cuts
@@ -129,5 +129,5 @@ module _ {words bytes tokens cuts area₀ : List ℕ} (begun : Begun words bytes
   -- its word 2 is one of 16 bits
   pub low-there : get_or area 2 0 < 65536
   low-there =
-      let e : get_or area 2 0 ≡ there.state.moves % 65536 = ap (λ a. get_or a 2 0) there.area-is ∙ low-moves-at (length tokens) there.state there.rest in
+      let e : get_or area 2 0 ≡ there.state.moves % 65536 = ap (λ a. get_or a 2 0) there.area_is ∙ low-moves-at (length tokens) there.state there.rest in
       omega arith

@@ -13,7 +13,7 @@ use Rattle.laws.specs.Tests.{le-unless}
 use Rattle.refusals.specs.declared.Refusal.TheVariants.{NoRoom}
 use Rattle.refusals.specs.declared.ReportAnswer.TheVariants.{Report, Refused}
 use Rattle.refusals.specs.Refusals.{report_number, report_value}
-use Rattle.language.specs.Words.{count_t, too-low, too-high}
+use Rattle.language.specs.Words.{count_t, too_low, too_high}
 use Rattle.language.specs.Trees.{Span, Reduction}
 use Rattle.machine.specs.States.{Outcome, refused_row, reported}
 use Rattle.machine.specs.Answers.{outcome_answer, outcome_out}
@@ -23,7 +23,7 @@ use Rattle.results.specs.ReadThrough.{read-through-schedule}
 use Rattle.machine.proofs.Counts.{moves-since-start}
 use Rattle.machine.proofs.GivenExactly.{report-exactly}
 use Rattle.layout.specs.Layout.{need}
-use Rattle.start.specs.Start.{StartInput, no-tokens, too_many, wrong-token, Startable}
+use Rattle.start.specs.Start.{StartInput, no_tokens, too_many, wrong_token, Startable}
 use Rattle.start.specs.StartKept.{no_end}
 use Rattle.parse.specs.ParseCall.{parse_outcome, parse_answer, parse_out}
 use Rattle.report.specs.ReportCall.{report_outcome, report_answer, report_out}
@@ -37,13 +37,13 @@ use Rattle.demands.specs.ParseDemand.{RightTokens, parse-answers, parse-writes, 
 use Rattle.demands.proofs.ParseDemand.{uncut-reader, uncut-finished}
 
 -- the tokens of a row that starts
-pub right-tokens : {input : StartInput} → Startable input → RightTokens input.words input.tokens
-right-tokens {input} can = record {
-  some-token = le-unless 1 (length input.tokens) (λ h. can.some-token 0 (no-tokens (omega arith) refl));
-  few-tokens = le-unless (length input.tokens) 16384 (λ h. can.few-tokens 0 (too_many h refl));
+pub right_tokens : {input : StartInput} → Startable input → RightTokens input.words input.tokens
+right_tokens {input} can = record {
+  some_token = le-unless 1 (length input.tokens) (λ h. can.some_token 0 (no_tokens (omega arith) refl));
+  few_tokens = le-unless (length input.tokens) 16384 (λ h. can.few_tokens 0 (too_many h refl));
   each = λ i l. (
-    le-unless 1 (get_or input.tokens i 0) (λ h. can.right-tokens i (wrong-token l (too-low h))),
-    le-unless (get_or input.tokens i 0) (count_t input.words) (λ h. can.right-tokens i (wrong-token l (too-high h))),
+    le-unless 1 (get_or input.tokens i 0) (λ h. can.right_tokens i (wrong_token l (too_low h))),
+    le-unless (get_or input.tokens i 0) (count_t input.words) (λ h. can.right_tokens i (wrong_token l (too_high h))),
   );
 }
 
@@ -78,16 +78,16 @@ counts (reported l m) room {entries} {count} e = go (ltb room (3 * length l)) re
         let z : m ≡ count = cc in
         (l, ap (λ k. reported l k) z)
 
-module _ {words bytes tokens cuts area₀ : List ℕ} (begun : Begun words bytes tokens cuts area₀) {calls : List Call} (own : AllOfLoad words bytes calls) (matrix : List ℕ) (of-load : OfLoad words bytes matrix) where
+module _ {words bytes tokens cuts area₀ : List ℕ} (begun : Begun words bytes tokens cuts area₀) {calls : List Call} (own : AllOfLoad words bytes calls) (matrix : List ℕ) (of_load : OfLoad words bytes matrix) where
   abbrev area : List ℕ
   area = area_after words area₀ calls
 
   right : RightTokens words tokens
-  right = right-tokens (startable begun)
+  right = right_tokens (startable begun)
 
   -- the row has an answer where its report is not 16
   pub answered : (room : ℕ) → (report_number (report_answer words matrix area room) ≡ 16 → ⊥) → Answered (there begun own).state
-  answered room h q = h (report-number begun own matrix of-load room ∙ ap (λ o. report_number (outcome_answer o room)) q)
+  answered room h q = h (report-number begun own matrix of_load room ∙ ap (λ o. report_number (outcome_answer o room)) q)
 
   -- the outcome is that of the one-call parse, its count aside
   pub same-but-moves : (room : ℕ) → (report_number (report_answer words matrix area room) ≡ 16 → ⊥)
@@ -95,7 +95,7 @@ module _ {words bytes tokens cuts area₀ : List ℕ} (begun : Begun words bytes
   same-but-moves room h =
       let a = accepted words bytes begun.loads in
       let reader = uncut-reader a right in
-      ap without_moves (report-there begun own matrix of-load)
+      ap without_moves (report-there begun own matrix of_load)
       ∙ uncut-outcome (own_table words) (own-end-mark a) tokens cuts (no_end (startable begun)) (there begun own).turns (answered room h)
       (read-through-schedule (own_table words) reader.reading) (uncut-finished a right reader)
       ∙ ap without_moves (sym (parse-reads a right reader))
@@ -119,5 +119,5 @@ module _ {words bytes tokens cuts area₀ : List ℕ} (begun : Begun words bytes
   unfolding report_answer
   report-counts room {entries} {count} e =
       let c = counts (report_outcome words matrix area) room e in
-      let r = (report-exactly (there begun own).state c.0 count).0 (sym (report-there begun own matrix of-load) ∙ c.1) in
-      r.moves-are ∙ moves-since-start (own_table words) tokens cuts (there begun own).turns
+      let r = (report-exactly (there begun own).state c.0 count).0 (sym (report-there begun own matrix of_load) ∙ c.1) in
+      r.moves_are ∙ moves-since-start (own_table words) tokens cuts (there begun own).turns

@@ -20,7 +20,7 @@ use Rattle.language.specs.Loads.{Accepted, load_answer, set_checked, left_set_an
 use Rattle.language.proofs.Loads.{accepted-exactly}
 use Rattle.language.specs.Trees.{Span}
 use Rattle.machine.specs.States.{State, Called, refused, became, Ran, refused_run, ran, run, join, start, chunk_at, outcome}
-use Rattle.machine.specs.Schedules.{by-join}
+use Rattle.machine.specs.Schedules.{by_join}
 use Rattle.results.specs.Bounded.{most_moves}
 use Rattle.machine.specs.Answers.{outcome_answer, outcome_out}
 use Rattle.layout.specs.Layout.{need, zeros, encode, decode}
@@ -35,8 +35,8 @@ use Rattle.machine.specs.TableOf.{own_table}
 use Rattle.matrix.specs.EndMarkOfShape.{own-shape}
 use Rattle.demands.proofs.OwnMatrix.{shape_is, table_is}
 use Rattle.moving.specs.OnWords.{reads, run_is, join_is, leaves}
-use Rattle.demands.proofs.OnWords.{report-is}
-use Rattle.demands.specs.Starred.{AllAsSaid, apart, as_said, before-join, bytes_of, cases, cut-at, no_more, of_chunk, of_report, reply_to, room_for}
+use Rattle.demands.proofs.OnWords.{report_is}
+use Rattle.demands.specs.Starred.{AllAsSaid, apart, as_said, before_join, bytes_of, cases, cut_at, no_more, of_chunk, of_report, reply_to, room_for}
 use Rattle.demands.specs.Starred.{together, uncut, words19}
 
 -- The answers are computed, but for three tests of grammar and matrix that are known to pass once the words load, and for the
@@ -122,7 +122,7 @@ module _ (words : List ℕ) (loads : load_answer words 4096 ≡ answer.Done) whe
       go (became s') q is = record {
         rest = h.rest;
         is = ap (λ x. called_area x area) (is ∙ q) ∙ ap (λ a. with_state a s') h.is ∙ leaves words (bytes_of words) grammar h.safe h.rest s';
-        safe = safe-turned words (matrix_of (grammar_of words)) (own-shape accepted_words) h.safe (by-join c q);
+        safe = safe-turned words (matrix_of (grammar_of words)) (own-shape accepted_words) h.safe (by_join c q);
       }
 
   module _ (cut : ℕ) (tokens : List ℕ) where
@@ -156,16 +156,16 @@ module _ (words : List ℕ) (loads : load_answer words 4096 ≡ answer.Done) whe
       together-holds : Holding (length tokens) (together cut words tokens) together_state
       together-holds = run_holds (join-holds apart-holds 0) 0 (most_moves (length tokens) 2)
 
-      reports : reply_to (cut-at cut words tokens)
+      reports : reply_to (cut_at cut words tokens)
           ≡ of_report (outcome_answer (outcome together_state) (3 * length tokens)) (outcome_out (outcome together_state) (zeros (3 * length tokens)))
       unfolding report_answer report_out
       reports =
           let h = together-holds in
           let o : report_outcome words (bytes_of words) (together cut words tokens) ≡ outcome together_state =
-          ap (λ a. report_outcome words (bytes_of words) a) h.is ∙ report-is words (bytes_of words) grammar h.safe h.rest in
+          ap (λ a. report_outcome words (bytes_of words) a) h.is ∙ report_is words (bytes_of words) grammar h.safe h.rest in
           ap (λ x. of_report (outcome_answer x (3 * length tokens)) (outcome_out x (zeros (3 * length tokens)))) o
 
-      rests-on : reply_to (before-join cut words tokens) ≡ of_chunk (chunk_at apart_state 1)
+      rests-on : reply_to (before_join cut words tokens) ≡ of_chunk (chunk_at apart_state 1)
       rests-on =
           let h = apart-holds in
           ap (λ s. of_chunk (chunk_at s 1)) (ap decode h.is ∙ reads words (bytes_of words) grammar h.safe h.rest)
@@ -199,8 +199,8 @@ pub begun-K : Begun words_k (zeros 4096) (1 ∷ 2 ∷ 4 ∷ 1 ∷ 1 ∷ []) (3 �
 begun-K = record {
   loads = loads-so words_k loads-K;
   matrix = bytes_of words_k;
-  of-load = refl;
+  of_load = refl;
   lent = zeros (need 5 2);
   starts = done words_k loads-K 3 (1 ∷ 2 ∷ 4 ∷ 1 ∷ 1 ∷ []) refl;
-  area-is = refl;
+  area_is = refl;
 }

@@ -18,7 +18,7 @@ use Rattle.parse.specs.ParseCall.{parsed_area, parse_begun, parse_area}
 use Rattle.demands.specs.Reached.{at-17-20}
 use Rattle.demands.specs.PublicCalls.{parse}
 use Rattle.demands.specs.PublicCalls.{number_for}
-use Rattle.demands.specs.GivenDemand.{ParseGiven, parse-words, parse-row, parse-stuck, parse-11, parse-0}
+use Rattle.demands.specs.GivenDemand.{ParseGiven, parse_words, parse_row, parse_stuck, parse_11, parse_0}
 use Rattle.demands.specs.GivenDemand.{refused-by-load, refused-by-start}
 
 -- ---- the numbers
@@ -31,9 +31,9 @@ use Rattle.demands.specs.GivenDemand.{refused-by-load, refused-by-start}
 
 -- as it was after 1 to 9 and after its own 11; otherwise, accepted or refused, the words of the formula are zeros and those beyond are as they were
 pub record ParseAreaLeft (words tokens area out : List ℕ) : Type 0 where
-  pub after-1-to-9 : 1 ≤ number_for (parse words tokens area out) → number_for (parse words tokens area out) ≤ 9 → parse_area words tokens area ≡ area
+  pub after_1_to_9 : 1 ≤ number_for (parse words tokens area out) → number_for (parse words tokens area out) ≤ 9 → parse_area words tokens area ≡ area
   pub too_short : length area < need (length tokens) 1 → parse_area words tokens area ≡ area
-  pub once-used : (number_for (parse words tokens area out) ≡ 0) ⊎ (9 < number_for (parse words tokens area out)) → need (length tokens) 1 ≤ length area
+  pub once_used : (number_for (parse words tokens area out) ≡ 0) ⊎ (9 < number_for (parse words tokens area out)) → need (length tokens) 1 ≤ length area
       → parse_area words tokens area ≡ zeros (need (length tokens) 1) ++ drop (need (length tokens) 1) area
 
 module _ (words tokens area out : List ℕ) where
@@ -43,8 +43,8 @@ module _ (words tokens area out : List ℕ) where
 
   pub refused-first : {answer : ReportAnswer} → ParseGiven words tokens (length area) (length out) answer → 1 ≤ report_number answer → report_number answer ≤ 9
       → parse_area words tokens area ≡ area
-  refused-first (parse-words e) low high = area-stays (refused-by-load words tokens (length area) e)
-  refused-first (parse-row e f) low high = area-stays (refused-by-start words tokens (length area) e f)
-  refused-first (parse-stuck b reader why place h) low high = absurd (omega (arith, (at-17-20 why place).0))
-  refused-first (parse-11 b reader entries moves h l) low high = absurd (omega arith)
-  refused-first (parse-0 b reader entries moves h l) low high = absurd (omega arith)
+  refused-first (parse_words e) low high = area-stays (refused-by-load words tokens (length area) e)
+  refused-first (parse_row e f) low high = area-stays (refused-by-start words tokens (length area) e f)
+  refused-first (parse_stuck b reader why place h) low high = absurd (omega (arith, (at-17-20 why place).0))
+  refused-first (parse_11 b reader entries moves h l) low high = absurd (omega arith)
+  refused-first (parse_0 b reader entries moves h l) low high = absurd (omega arith)

@@ -18,21 +18,21 @@ use Rattle.moving.specs.Calls.{step_answer, step_area, run_answer, run_area, joi
 -- ---- one call
 
 pub data Call : Type 0 where
-  a-step : (matrix : List ℕ) (c : ℕ) → Call
-  a-run : (matrix : List ℕ) (c budget : ℕ) → Call
-  a-join : (matrix : List ℕ) (c : ℕ) → Call
+  a_step : (matrix : List ℕ) (c : ℕ) → Call
+  a_run : (matrix : List ℕ) (c budget : ℕ) → Call
+  a_join : (matrix : List ℕ) (c : ℕ) → Call
 
 -- the matrix lent to it
 abbrev pub matrix_for : Call → List ℕ
-matrix_for (a-step matrix c) = matrix
-matrix_for (a-run matrix c budget) = matrix
-matrix_for (a-join matrix c) = matrix
+matrix_for (a_step matrix c) = matrix
+matrix_for (a_run matrix c budget) = matrix
+matrix_for (a_join matrix c) = matrix
 
 -- the number that it answers: 0 is success
 abbrev pub call_number : List ℕ → List ℕ → Call → ℕ
-call_number words area (a-step matrix c) = answer_number (step_answer words matrix area c)
-call_number words area (a-run matrix c budget) = run_number (run_answer words matrix area c budget)
-call_number words area (a-join matrix c) = answer_number (join_answer words matrix area c)
+call_number words area (a_step matrix c) = answer_number (step_answer words matrix area c)
+call_number words area (a_run matrix c budget) = run_number (run_answer words matrix area c budget)
+call_number words area (a_join matrix c) = answer_number (join_answer words matrix area c)
 
 abbrev pub one_if_done : Answer → ℕ
 one_if_done Done = 1
@@ -44,15 +44,15 @@ moves_of_run (run.Refused refusal) = 0
 
 -- the moves that its answer tells of: 1 for a step or a join that is accepted, a run's own number, 0 for a refusal
 abbrev pub call_made : List ℕ → List ℕ → Call → ℕ
-call_made words area (a-step matrix c) = one_if_done (step_answer words matrix area c)
-call_made words area (a-run matrix c budget) = moves_of_run (run_answer words matrix area c budget)
-call_made words area (a-join matrix c) = one_if_done (join_answer words matrix area c)
+call_made words area (a_step matrix c) = one_if_done (step_answer words matrix area c)
+call_made words area (a_run matrix c budget) = moves_of_run (run_answer words matrix area c budget)
+call_made words area (a_join matrix c) = one_if_done (join_answer words matrix area c)
 
 -- the area afterwards
 abbrev pub call_area : List ℕ → List ℕ → Call → List ℕ
-call_area words area (a-step matrix c) = step_area words matrix area c
-call_area words area (a-run matrix c budget) = run_area words matrix area c budget
-call_area words area (a-join matrix c) = join_area words matrix area c
+call_area words area (a_step matrix c) = step_area words matrix area c
+call_area words area (a_run matrix c budget) = run_area words matrix area c budget
+call_area words area (a_join matrix c) = join_area words matrix area c
 
 -- ---- calls one after the other
 
@@ -73,13 +73,13 @@ OfLoad words bytes matrix = take 4096 matrix ≡ take 4096 (load_bytes words byt
 
 pub data AllOfLoad (words bytes : List ℕ) : List Call → Type 0 where
   no_call : AllOfLoad words bytes []
-  and-call : {call : Call} {calls : List Call} → OfLoad words bytes (matrix_for call) → AllOfLoad words bytes calls → AllOfLoad words bytes (call ∷ calls)
+  and_call : {call : Call} {calls : List Call} → OfLoad words bytes (matrix_for call) → AllOfLoad words bytes calls → AllOfLoad words bytes (call ∷ calls)
 
 -- the words and bytes of an accepted load, and the area that an accepted start left; `lent` is what start was lent for it
 pub record Begun (words bytes tokens cuts area : List ℕ) : Type 0 where
   pub loads : load_answer words (length bytes) ≡ Done
   pub matrix : List ℕ
-  pub of-load : OfLoad words bytes matrix
+  pub of_load : OfLoad words bytes matrix
   pub lent : List ℕ
   pub starts : start_answer words matrix tokens cuts (length lent) ≡ Done
-  pub area-is : area ≡ start_area words matrix tokens cuts lent
+  pub area_is : area ≡ start_area words matrix tokens cuts lent

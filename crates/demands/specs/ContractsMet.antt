@@ -21,7 +21,7 @@ use Rattle.refusals.specs.contracts.value as value
 use Rattle.refusals.specs.contracts.stuck_refusal as stuck-refusal
 use Rattle.words.specs.contracts.check_symbols as check-symbols
 use Rattle.words.specs.contracts.check_words as check-words
-use Rattle.words.specs.contracts.body_of as body_of
+use Rattle.words.specs.contracts.body_of as body-of
 use Rattle.table.specs.contracts.load as load
 use Rattle.table.specs.contracts.left_set as left-set
 use Rattle.table.specs.contracts.right_set as right-set
@@ -31,7 +31,7 @@ use Rattle.start.specs.contracts.start as start
 use Rattle.reader.specs.contracts.step as step
 use Rattle.reader.specs.contracts.run as run
 use Rattle.reader.specs.contracts.join as join
-use Rattle.reader.specs.contracts.read_through as read_through
+use Rattle.reader.specs.contracts.read_through as read-through
 use Rattle.parse.specs.contracts.parse as parse
 use Rattle.report.specs.contracts.report as report
 use Rattle.report.specs.contracts.entry_tokens as entry-tokens
@@ -48,11 +48,11 @@ module _ {M : Type 1} {𝓤 : Ura M} (𝓛 : Logic 𝓤) (mem : Memory → SProp
   abbrev one_line : {A : Type 0} → A → A → SProp 𝓤
   one_line x p = ⌜ x ≡ p ⌝
 
-  abbrev two-lines : {A B : Type 0} → A × B → A × B → SProp 𝓤
-  two-lines x p = ⌜ x.0 ≡ p.0 ⌝ ∗ ⌜ x.1 ≡ p.1 ⌝
+  abbrev two_lines : {A B : Type 0} → A × B → A × B → SProp 𝓤
+  two_lines x p = ⌜ x.0 ≡ p.0 ⌝ ∗ ⌜ x.1 ≡ p.1 ⌝
 
-  abbrev three-lines : {A B C : Type 0} → A × B × C → A × B × C → SProp 𝓤
-  three-lines x p = ⌜ x.0 ≡ p.0 ⌝ ∗ (⌜ x.1 ≡ p.1 ⌝ ∗ ⌜ x.2 ≡ p.2 ⌝)
+  abbrev three_lines : {A B C : Type 0} → A × B × C → A × B × C → SProp 𝓤
+  three_lines x p = ⌜ x.0 ≡ p.0 ⌝ ∗ (⌜ x.1 ≡ p.1 ⌝ ∗ ⌜ x.2 ≡ p.2 ⌝)
 
   -- it asks nothing, and says just this
   abbrev Says : SProp 𝓤 → SProp 𝓤 → SProp 𝓤 → Type 2
@@ -62,83 +62,83 @@ module _ {M : Type 1} {𝓤 : Ura M} (𝓛 : Logic 𝓤) (mem : Memory → SProp
     pub of_number : (κs args r end : _)
         → Says ((number.clauses 𝓛 mem routines κs args).requires tt) ((number.clauses 𝓛 mem routines κs args).ensures tt r end)
         (one_line r (promised (call.number-of args.0)))
-    pub of-value : (κs args r end : _)
+    pub of_value : (κs args r end : _)
         → Says ((value.clauses 𝓛 mem routines κs args).requires tt) ((value.clauses 𝓛 mem routines κs args).ensures tt r end)
         (one_line r (promised (call.value-of args.0)))
-    pub of-stuck-refusal : (κs args r end : _)
+    pub of_stuck_refusal : (κs args r end : _)
         → Says ((stuck-refusal.clauses 𝓛 mem routines κs args).requires tt) ((stuck-refusal.clauses 𝓛 mem routines κs args).ensures tt r end)
         (one_line r (promised (call.stuck-refusal args.0 args.1.0)))
-    pub of-check-symbols : (κs args r end : _)
+    pub of_check_symbols : (κs args r end : _)
         → Says ((check-symbols.clauses 𝓛 mem routines κs args).requires tt) ((check-symbols.clauses 𝓛 mem routines κs args).ensures tt r end)
         (one_line r (promised (call.check-symbols args.0.now)))
-    pub of-check-words : (κs args r end : _)
+    pub of_check_words : (κs args r end : _)
         → Says ((check-words.clauses 𝓛 mem routines κs args).requires tt) ((check-words.clauses 𝓛 mem routines κs args).ensures tt r end)
         (one_line r (promised (call.check-words args.0.now)))
-    pub of-body-of : (κs args r end : _)
-        → Says ((body_of.clauses 𝓛 mem routines κs args).requires tt) ((body_of.clauses 𝓛 mem routines κs args).ensures tt r end)
-        (one_line r (promised (call.body_of args.0.now args.1.0)))
-    pub of-load : (κs args r end : _)
+    pub of_body_of : (κs args r end : _)
+        → Says ((body-of.clauses 𝓛 mem routines κs args).requires tt) ((body-of.clauses 𝓛 mem routines κs args).ensures tt r end)
+        (one_line r (promised (call.body-of args.0.now args.1.0)))
+    pub of_load : (κs args r end : _)
         → Says ((load.clauses 𝓛 mem routines κs args).requires tt) ((load.clauses 𝓛 mem routines κs args).ensures tt r end)
-        (two-lines (r, end.1.0.now) (promised (call.load args.0.now args.1.0.now)))
-    pub of-left-set : (κs args r end : _)
+        (two_lines (r, end.1.0.now) (promised (call.load args.0.now args.1.0.now)))
+    pub of_left_set : (κs args r end : _)
         → Says ((left-set.clauses 𝓛 mem routines κs args).requires tt) ((left-set.clauses 𝓛 mem routines κs args).ensures tt r end)
         (one_line r (promised (call.left-set args.0.now args.1.0)))
-    pub of-right-set : (κs args r end : _)
+    pub of_right_set : (κs args r end : _)
         → Says ((right-set.clauses 𝓛 mem routines κs args).requires tt) ((right-set.clauses 𝓛 mem routines κs args).ensures tt r end)
         (one_line r (promised (call.right-set args.0.now args.1.0)))
-    pub of-grammar-in-shape : (κs args r end : _)
+    pub of_grammar_in_shape : (κs args r end : _)
         → Says ((grammar-in-shape.clauses 𝓛 mem routines κs args).requires tt) ((grammar-in-shape.clauses 𝓛 mem routines κs args).ensures tt r end)
         (one_line r (promised (call.grammar-in-shape args.0.now args.1.0.now)))
-    pub of-in-shape : (κs args r end : _)
+    pub of_in_shape : (κs args r end : _)
         → Says ((in-shape.clauses 𝓛 mem routines κs args).requires tt) ((in-shape.clauses 𝓛 mem routines κs args).ensures tt r end)
         (one_line r (promised (call.in-shape args.0.now args.1.0.now args.1.1.0.now)))
-    pub of-start : (κs args r end : _)
+    pub of_start : (κs args r end : _)
         → Says ((start.clauses 𝓛 mem routines κs args).requires tt) ((start.clauses 𝓛 mem routines κs args).ensures tt r end)
-        (two-lines (r, end.1.1.1.1.0.now)
+        (two_lines (r, end.1.1.1.1.0.now)
         (promised (call.start args.0.now args.1.0.now args.1.1.0.now args.1.1.1.0.now args.1.1.1.1.0.now)))
-    pub of-step : (κs args r end : _)
+    pub of_step : (κs args r end : _)
         → Says ((step.clauses 𝓛 mem routines κs args).requires tt) ((step.clauses 𝓛 mem routines κs args).ensures tt r end)
-        (two-lines (r, end.1.1.0.now) (promised (call.step args.0.now args.1.0.now args.1.1.0.now args.1.1.1.0)))
-    pub of-run : (κs args r end : _)
+        (two_lines (r, end.1.1.0.now) (promised (call.step args.0.now args.1.0.now args.1.1.0.now args.1.1.1.0)))
+    pub of_run : (κs args r end : _)
         → Says ((run.clauses 𝓛 mem routines κs args).requires tt) ((run.clauses 𝓛 mem routines κs args).ensures tt r end)
-        (two-lines (r, end.1.1.0.now) (promised (call.run args.0.now args.1.0.now args.1.1.0.now args.1.1.1.0 args.1.1.1.1.0)))
-    pub of-join : (κs args r end : _)
+        (two_lines (r, end.1.1.0.now) (promised (call.run args.0.now args.1.0.now args.1.1.0.now args.1.1.1.0 args.1.1.1.1.0)))
+    pub of_join : (κs args r end : _)
         → Says ((join.clauses 𝓛 mem routines κs args).requires tt) ((join.clauses 𝓛 mem routines κs args).ensures tt r end)
-        (two-lines (r, end.1.1.0.now) (promised (call.join args.0.now args.1.0.now args.1.1.0.now args.1.1.1.0)))
-    pub of-read-through : (κs args r end : _)
-        → Says ((read_through.clauses 𝓛 mem routines κs args).requires tt) ((read_through.clauses 𝓛 mem routines κs args).ensures tt r end)
-        (two-lines (r, end.1.1.1.0.now) (promised (call.read_through args.0.now args.1.0.now args.1.1.0.now args.1.1.1.0.now)))
-    pub of-report : (κs args r end : _)
+        (two_lines (r, end.1.1.0.now) (promised (call.join args.0.now args.1.0.now args.1.1.0.now args.1.1.1.0)))
+    pub of_read_through : (κs args r end : _)
+        → Says ((read-through.clauses 𝓛 mem routines κs args).requires tt) ((read-through.clauses 𝓛 mem routines κs args).ensures tt r end)
+        (two_lines (r, end.1.1.1.0.now) (promised (call.read-through args.0.now args.1.0.now args.1.1.0.now args.1.1.1.0.now)))
+    pub of_report : (κs args r end : _)
         → Says ((report.clauses 𝓛 mem routines κs args).requires tt) ((report.clauses 𝓛 mem routines κs args).ensures tt r end)
-        (two-lines (r, end.1.1.1.0.now) (promised (call.report args.0.now args.1.0.now args.1.1.0.now args.1.1.1.0.now)))
-    pub of-parse : (κs args r end : _)
+        (two_lines (r, end.1.1.1.0.now) (promised (call.report args.0.now args.1.0.now args.1.1.0.now args.1.1.1.0.now)))
+    pub of_parse : (κs args r end : _)
         → Says ((parse.clauses 𝓛 mem routines κs args).requires tt) ((parse.clauses 𝓛 mem routines κs args).ensures tt r end)
-        (three-lines (r, end.1.1.0.now, end.1.1.1.0.now) (promised (call.parse args.0.now args.1.0.now args.1.1.0.now args.1.1.1.0.now)))
-    pub of-entry-tokens : (κs args r end : _)
+        (three_lines (r, end.1.1.0.now, end.1.1.1.0.now) (promised (call.parse args.0.now args.1.0.now args.1.1.0.now args.1.1.1.0.now)))
+    pub of_entry_tokens : (κs args r end : _)
         → Says ((entry-tokens.clauses 𝓛 mem routines κs args).requires tt) ((entry-tokens.clauses 𝓛 mem routines κs args).ensures tt r end)
-        (two-lines (r.now, r.ref_ptr) (promised (call.entry-tokens args.0.now args.1.0 args.1.1.0.now args.1.1.0.ref_ptr)))
+        (two_lines (r.now, r.ref_ptr) (promised (call.entry-tokens args.0.now args.1.0 args.1.1.0.now args.1.1.0.ref_ptr)))
 
   pub contracts : AsPromised
   contracts = record {
     of_number = λ κs args r end. (refl, refl);
-    of-value = λ κs args r end. (refl, refl);
-    of-stuck-refusal = λ κs args r end. (refl, refl);
-    of-check-symbols = λ κs args r end. (refl, refl);
-    of-check-words = λ κs args r end. (refl, refl);
-    of-body-of = λ κs args r end. (refl, refl);
-    of-load = λ κs args r end. (refl, refl);
-    of-left-set = λ κs args r end. (refl, refl);
-    of-right-set = λ κs args r end. (refl, refl);
-    of-grammar-in-shape = λ κs args r end. (refl, refl);
-    of-in-shape = λ κs args r end. (refl, refl);
-    of-start = λ κs args r end. (refl, refl);
-    of-step = λ κs args r end. (refl, refl);
-    of-run = λ κs args r end. (refl, refl);
-    of-join = λ κs args r end. (refl, refl);
-    of-read-through = λ κs args r end. (refl, refl);
-    of-report = λ κs args r end. (refl, refl);
-    of-parse = λ κs args r end. (refl, refl);
-    of-entry-tokens = λ κs args r end. (refl, refl);
+    of_value = λ κs args r end. (refl, refl);
+    of_stuck_refusal = λ κs args r end. (refl, refl);
+    of_check_symbols = λ κs args r end. (refl, refl);
+    of_check_words = λ κs args r end. (refl, refl);
+    of_body_of = λ κs args r end. (refl, refl);
+    of_load = λ κs args r end. (refl, refl);
+    of_left_set = λ κs args r end. (refl, refl);
+    of_right_set = λ κs args r end. (refl, refl);
+    of_grammar_in_shape = λ κs args r end. (refl, refl);
+    of_in_shape = λ κs args r end. (refl, refl);
+    of_start = λ κs args r end. (refl, refl);
+    of_step = λ κs args r end. (refl, refl);
+    of_run = λ κs args r end. (refl, refl);
+    of_join = λ κs args r end. (refl, refl);
+    of_read_through = λ κs args r end. (refl, refl);
+    of_report = λ κs args r end. (refl, refl);
+    of_parse = λ κs args r end. (refl, refl);
+    of_entry_tokens = λ κs args r end. (refl, refl);
   }
 
 -- ---- one answer only
@@ -157,7 +157,7 @@ promise-kept (call.value-of refusal) = refl
 promise-kept (call.stuck-refusal status place) = refl
 promise-kept (call.check-symbols words) = refl
 promise-kept (call.check-words words) = refl
-promise-kept (call.body_of words r) = refl
+promise-kept (call.body-of words r) = refl
 promise-kept (call.load words bytes) = (refl, refl)
 promise-kept (call.left-set words k) = refl
 promise-kept (call.right-set words k) = refl
@@ -167,7 +167,7 @@ promise-kept (call.start words matrix tokens cuts area) = (refl, refl)
 promise-kept (call.step words matrix area c) = (refl, refl)
 promise-kept (call.run words matrix area c budget) = (refl, refl)
 promise-kept (call.join words matrix area c) = (refl, refl)
-promise-kept (call.read_through words matrix tokens area) = (refl, refl)
+promise-kept (call.read-through words matrix tokens area) = (refl, refl)
 promise-kept (call.report words matrix area out) = (refl, refl)
 promise-kept (call.parse words tokens area out) = (refl, refl, refl)
 promise-kept (call.entry-tokens entries e tokens place) = (refl, refl)
@@ -179,7 +179,7 @@ one-answer-only (call.value-of refusal) x y p q = p ∙ sym q
 one-answer-only (call.stuck-refusal status place) x y p q = p ∙ sym q
 one-answer-only (call.check-symbols words) x y p q = p ∙ sym q
 one-answer-only (call.check-words words) x y p q = p ∙ sym q
-one-answer-only (call.body_of words r) x y p q = p ∙ sym q
+one-answer-only (call.body-of words r) x y p q = p ∙ sym q
 one-answer-only (call.load words bytes) x y p q = both p q
 one-answer-only (call.left-set words k) x y p q = p ∙ sym q
 one-answer-only (call.right-set words k) x y p q = p ∙ sym q
@@ -189,7 +189,7 @@ one-answer-only (call.start words matrix tokens cuts area) x y p q = both p q
 one-answer-only (call.step words matrix area c) x y p q = both p q
 one-answer-only (call.run words matrix area c budget) x y p q = both p q
 one-answer-only (call.join words matrix area c) x y p q = both p q
-one-answer-only (call.read_through words matrix tokens area) x y p q = both p q
+one-answer-only (call.read-through words matrix tokens area) x y p q = both p q
 one-answer-only (call.report words matrix area out) x y p q = both p q
 one-answer-only (call.parse words tokens area out) x y p q = all_three p q
 one-answer-only (call.entry-tokens entries e tokens place) x y p q = both p q

@@ -65,9 +65,9 @@ pub record Answers (call : PublicCall) : Type 1 where
   -- ".. and place": an answer, with its value, is given exactly when its sentence of the table holds and the checks before it passed
   pub given : GivenFor call
   -- "what was lent to that call still holds what it held": every run that it may write, the one-call parse's work area aside
-  pub refused-keeps : (number_for call ≡ 0 → ⊥) → {w : Written} → Memᴰ w (written call) → w.after ≡ w.before
+  pub refused_keeps : (number_for call ≡ 0 → ⊥) → {w : Written} → Memᴰ w (written call) → w.after ≡ w.before
   -- "anything beyond is untouched", on success too
-  pub beyond-keeps : {w : Written} → Memᴰ w (written call) → get_or w.before 2 0 < 65536 → drop w.counted w.after ≡ drop w.counted w.before
+  pub beyond_keeps : {w : Written} → Memᴰ w (written call) → get_or w.before 2 0 < 65536 → drop w.counted w.after ≡ drop w.counted w.before
 
 abbrev pub Demand1 : Type 1
 Demand1 = (call : PublicCall) → Answers call
@@ -83,11 +83,11 @@ pub record ParseRight (words tokens : List ℕ) (room : ℕ) (out : List ℕ) : 
   pub accepts : (report_number (parse_answer words tokens room (length out)) ≡ 0) ↔ InLanguage (grammar_of words) tokens
   -- the uncut reader: chunk 0 makes one move after the other until it rests; there is one such reading
   pub reader : UncutReader words tokens
-  pub one-reading : {moves : ℕ} {last : State Span} → ReadThrough (own_table words) (start tokens []) moves last
+  pub one_reading : {moves : ℕ} {last : State Span} → ReadThrough (own_table words) (start tokens []) moves last
       → (moves ≡ reader.moves) × (last ≡ reader.last)
   -- its report is the post-order of the one tree, and its count is the number of the reader's moves
   pub reports : (t : AxiomTree (grammar_of words) tokens) → ParseReports words tokens room out (entries_of t) reader.moves
-  pub one-tree : (t t' : AxiomTree (grammar_of words) tokens) → t.of-root.tree ≡ t'.of-root.tree
+  pub one_tree : (t t' : AxiomTree (grammar_of words) tokens) → t.of_root.tree ≡ t'.of_root.tree
   -- where no axiom derives the tokens it answers the number and place at which the uncut reader gets stuck, never 16 or 20
   pub refuses : (InLanguage (grammar_of words) tokens → ⊥)
       → (refusal : Refusal) × GotStuck tokens reader.last refusal
@@ -107,8 +107,8 @@ tokens_in area = get_or area 0 0
 
 pub record MovesRight (words matrix area : List ℕ) : Type 0 where
   -- the area has the words of the state s that it decodes to, which keeps the rules
-  pub words-of : area ≡ encode (tokens_in area) (decode area) ++ beyond_in area
-  pub keeps-rules : Safe words (tokens_in area) (decode area)
+  pub words_of : area ≡ encode (tokens_in area) (decode area) ++ beyond_in area
+  pub keeps_rules : Safe words (tokens_in area) (decode area)
   -- an accepted step takes the area from the words of s to the words of s' exactly when rules 1 to 6 have that move of that chunk
   pub steps : (c : ℕ) (s' : State Span) → StepLeaves words matrix area (beyond_in area) (tokens_in area) c s' ↔ Steps (table_of words matrix) c (decode area) s'
   -- so for each move of a run: it answers j exactly when j such moves lead there, and then the budget is spent or the chunk rests
@@ -135,8 +135,8 @@ pub record AnyOrder (words bytes tokens cuts area₀ : List ℕ) (calls : List C
   -- the area has the words of a state that so many named moves reach from the start
   pub reached : Standing words tokens cuts area (moves_made words area₀ calls)
   -- (a) none of the calls answers 15, and a refused one changes nothing; nor does the report answer 15
-  pub each-call : EachRight words area₀ calls
-  pub report-not-15 : (matrix : List ℕ) → OfLoad words bytes matrix → (room : ℕ) → report_number (report_answer words matrix area room) ≡ 15 → ⊥
+  pub each_call : EachRight words area₀ calls
+  pub report_not_15 : (matrix : List ℕ) → OfLoad words bytes matrix → (room : ℕ) → report_number (report_answer words matrix area room) ≡ 15 → ⊥
   -- (b) while the report answers 16, some step or join answers 0
   pub goes_on : (matrix : List ℕ) → OfLoad words bytes matrix → (room : ℕ) → report_number (report_answer words matrix area room) ≡ 16
       → SomeMove words matrix area
@@ -147,11 +147,11 @@ pub record AnyOrder (words bytes tokens cuts area₀ : List ℕ) (calls : List C
   -- cuts; a report's own count is this too
   pub counted : moves_in area ≡ moves_made words area₀ calls
   pub few : moves_made words area₀ calls ≤ length tokens * (length cuts + 1) + length tokens + 4 * (length cuts + 1) - 2
-  pub report-count : (matrix : List ℕ) → OfLoad words bytes matrix → (room : ℕ) {entries count : ℕ} → report_answer words matrix area room ≡ Report entries count
+  pub report_count : (matrix : List ℕ) → OfLoad words bytes matrix → (room : ℕ) {entries count : ℕ} → report_answer words matrix area room ≡ Report entries count
       → count ≡ moves_made words area₀ calls
   -- (d) where the report does not answer 16, its number, value, entries and written words are parse's, and only the count may differ; the
   -- value of a report is the number of its entries. Parse needs its own area; a short report run gives both 11
-  pub same-as-parse : (matrix : List ℕ) → OfLoad words bytes matrix → (out : List ℕ) → (report_number (report_answer words matrix area (length out)) ≡ 16 → ⊥)
+  pub same_as_parse : (matrix : List ℕ) → OfLoad words bytes matrix → (out : List ℕ) → (report_number (report_answer words matrix area (length out)) ≡ 16 → ⊥)
       → (room : ℕ) → need (length tokens) 1 ≤ room
       → (report_number (report_answer words matrix area (length out)) ≡ report_number (parse_answer words tokens room (length out)))
       × (report_value (report_answer words matrix area (length out)) ≡ report_value (parse_answer words tokens room (length out)))
@@ -168,12 +168,12 @@ Demand3 =
 -- (e) so every schedule that goes on while it can finishes: any endless list of calls, of which a later one makes a move wherever the report
 -- answers 16. After some number of its calls the report does not answer 16, and by (d) it is parse's
 pub record Finish (words bytes tokens cuts area₀ matrix : List ℕ) (room : ℕ) : Type 0 where
-  pub every-schedule : (schedule : ℕ → Call) → ((i : ℕ) → OfLoad words bytes (matrix_for (schedule i))) → GoesOn words area₀ matrix room schedule
+  pub every_schedule : (schedule : ℕ → Call) → ((i : ℕ) → OfLoad words bytes (matrix_for (schedule i))) → GoesOn words area₀ matrix room schedule
       → (k : ℕ) × (report_after words area₀ matrix room (first_calls schedule k) ≡ 16 → ⊥)
   -- no list of calls that each make a move is longer than the bound; and wherever calls have come to, some steps and joins finish
   pub no_longer : {calls : List Call} → AllOfLoad words bytes calls → AllMove words area₀ calls
       → length calls ≤ length tokens * (length cuts + 1) + length tokens + 4 * (length cuts + 1) - 2
-  pub from-anywhere : {calls : List Call} → AllOfLoad words bytes calls → CanFinish words bytes area₀ matrix room calls
+  pub from_anywhere : {calls : List Call} → AllOfLoad words bytes calls → CanFinish words bytes area₀ matrix room calls
 
 abbrev pub Demand3Finishes : Type 0
 Demand3Finishes =

@@ -16,8 +16,8 @@ use Rattle.demands.specs.Calls.{Call, call_made, call_area, area_after, AllOfLoa
 
 -- a step or a join that is accepted: it answers 0 (Done)
 pub data SomeMove (words matrix area : List ℕ) : Type 0 where
-  some-step : (c : ℕ) → c < 64 → step_answer words matrix area c ≡ Done → SomeMove words matrix area
-  some-join : (c : ℕ) → c < 64 → join_answer words matrix area c ≡ Done → SomeMove words matrix area
+  some_step : (c : ℕ) → c < 64 → step_answer words matrix area c ≡ Done → SomeMove words matrix area
+  some_join : (c : ℕ) → c < 64 → join_answer words matrix area c ≡ Done → SomeMove words matrix area
 
 -- ---- (b)
 
@@ -31,7 +31,7 @@ first_calls schedule (suc k) = first_calls schedule k ++ (schedule k ∷ [])
 -- each call of a list makes a move
 pub data AllMove (words : List ℕ) : List ℕ → List Call → Type 0 where
   none_left : {area : List ℕ} → AllMove words area []
-  moves-and : {area : List ℕ} {call : Call} {calls : List Call} → 0 < call_made words area call → AllMove words (call_area words area call) calls
+  moves_and : {area : List ℕ} {call : Call} {calls : List Call} → 0 < call_made words area call → AllMove words (call_area words area call) calls
       → AllMove words area (call ∷ calls)
 
 -- the report's number after some calls, with this matrix and a report run of that many words

@@ -44,8 +44,8 @@ use Rattle.moving.specs.Calls.{step_answer, run_answer, join_answer}
 use Rattle.moving.specs.ReadCall.{read_answer}
 use Rattle.parse.specs.ParseCall.{then_start, parse_begun, parse_answer}
 use Rattle.report.specs.ReportCall.{report_answer}
-use Rattle.demands.specs.PublicCalls.{PublicCall, number-of, value-of, stuck-refusal, check-symbols, check-words, body_of, load, left-set, right-set}
-use Rattle.demands.specs.PublicCalls.{grammar-in-shape, in-shape, start, step, run, join, read_through, report, parse, entry-tokens}
+use Rattle.demands.specs.PublicCalls.{PublicCall, number-of, value-of, stuck-refusal, check-symbols, check-words, body-of, load, left-set, right-set}
+use Rattle.demands.specs.PublicCalls.{grammar-in-shape, in-shape, start, step, run, join, read-through, report, parse, entry-tokens}
 use Rattle.demands.specs.ParseDemand.{UncutReader}
 
 -- ---- lists of conditions
@@ -58,8 +58,8 @@ lent_to_set words k = record { words = words; number = k }
 
 -- a set of the rules of g, or a refusal
 pub data SetGiven (words : List ℕ) (k : ℕ) (g : Grammar) : SetAnswer → Type 1 where
-  set-refused : {refusal : Refusal} → Given (lent_to_set words k) set_conditions (Refused refusal) → SetGiven words k g (set.Refused refusal)
-  set-0 : Given (lent_to_set words k) set_conditions Done → SetGiven words k g (set.Terminals (left_set g k) (left_size g k))
+  set_refused : {refusal : Refusal} → Given (lent_to_set words k) set_conditions (Refused refusal) → SetGiven words k g (set.Refused refusal)
+  set_0 : Given (lent_to_set words k) set_conditions Done → SetGiven words k g (set.Terminals (left_set g k) (left_size g k))
 
 abbrev pub lent_to_start : List ℕ → List ℕ → List ℕ → List ℕ → ℕ → StartInput
 lent_to_start words matrix tokens cuts room = record { words = words; matrix = matrix; tokens = tokens; cuts = cuts; room = room }
@@ -69,35 +69,35 @@ lent_to_start words matrix tokens cuts room = record { words = words; matrix = m
 module _ (words matrix area : List ℕ) where
   -- 15, 12, 13; else one of the named moves
   pub data StepGiven (c : ℕ) : Answer → Type 1 where
-    step-15 : in_shape words matrix area ≡ false → StepGiven c (Refused BadState)
-    step-12 : in_shape words matrix area ≡ true → (Live (decode area).chunks c → ⊥) → StepGiven c (Refused NoChunk)
-    step-13 : in_shape words matrix area ≡ true → LiveAtRest c (decode area) → StepGiven c (Refused AtRest)
-    step-0 : in_shape words matrix area ≡ true → {s' : State Span} → Steps (table_of words matrix) c (decode area) s' → StepGiven c Done
+    step_15 : in_shape words matrix area ≡ false → StepGiven c (Refused BadState)
+    step_12 : in_shape words matrix area ≡ true → (Live (decode area).chunks c → ⊥) → StepGiven c (Refused NoChunk)
+    step_13 : in_shape words matrix area ≡ true → LiveAtRest c (decode area) → StepGiven c (Refused AtRest)
+    step_0 : in_shape words matrix area ≡ true → {s' : State Span} → Steps (table_of words matrix) c (decode area) s' → StepGiven c Done
 
   -- 15, 12, 13; else j of the named moves
   pub data RunGiven (c budget : ℕ) : RunAnswer → Type 1 where
-    run-15 : in_shape words matrix area ≡ false → RunGiven c budget (runs.Refused BadState)
-    run-12 : in_shape words matrix area ≡ true → (Live (decode area).chunks c → ⊥) → RunGiven c budget (runs.Refused NoChunk)
-    run-13 : in_shape words matrix area ≡ true → LiveAtRest c (decode area) → RunGiven c budget (runs.Refused AtRest)
-    run-0 : in_shape words matrix area ≡ true → {j : ℕ} {s' : State Span} → RunNamed (table_of words matrix) c budget (decode area) j s'
+    run_15 : in_shape words matrix area ≡ false → RunGiven c budget (runs.Refused BadState)
+    run_12 : in_shape words matrix area ≡ true → (Live (decode area).chunks c → ⊥) → RunGiven c budget (runs.Refused NoChunk)
+    run_13 : in_shape words matrix area ≡ true → LiveAtRest c (decode area) → RunGiven c budget (runs.Refused AtRest)
+    run_0 : in_shape words matrix area ≡ true → {j : ℕ} {s' : State Span} → RunNamed (table_of words matrix) c budget (decode area) j s'
         → RunGiven c budget (runs.Moves j)
 
   -- 15, 12, 14; else the join
   pub data JoinGiven (c : ℕ) : Answer → Type 1 where
-    join-15 : in_shape words matrix area ≡ false → JoinGiven c (Refused BadState)
-    join-12 : in_shape words matrix area ≡ true → (Live (decode area).chunks c → ⊥) → JoinGiven c (Refused NoChunk)
-    join-14 : in_shape words matrix area ≡ true → CannotJoin c (decode area) → JoinGiven c (Refused NoJoin)
-    join-0 : in_shape words matrix area ≡ true → {s' : State Span} → JoinsAt c (decode area) s' → JoinGiven c Done
+    join_15 : in_shape words matrix area ≡ false → JoinGiven c (Refused BadState)
+    join_12 : in_shape words matrix area ≡ true → (Live (decode area).chunks c → ⊥) → JoinGiven c (Refused NoChunk)
+    join_14 : in_shape words matrix area ≡ true → CannotJoin c (decode area) → JoinGiven c (Refused NoJoin)
+    join_0 : in_shape words matrix area ≡ true → {s' : State Span} → JoinsAt c (decode area) s' → JoinGiven c Done
 
   -- 15, 16, 17 to 20, 11; else the report
   pub data ReportGiven (room : ℕ) : ReportAnswer → Type 1 where
-    report-15 : in_shape words matrix area ≡ false → ReportGiven room (reports.Refused BadState)
-    report-16 : in_shape words matrix area ≡ true → (Finished (decode area) → ⊥) → ReportGiven room (reports.Refused Unfinished)
-    report-stuck : in_shape words matrix area ≡ true → (why : Stuck) (place : ℕ) → StuckSo (decode area) why place
+    report_15 : in_shape words matrix area ≡ false → ReportGiven room (reports.Refused BadState)
+    report_16 : in_shape words matrix area ≡ true → (Finished (decode area) → ⊥) → ReportGiven room (reports.Refused Unfinished)
+    report_stuck : in_shape words matrix area ≡ true → (why : Stuck) (place : ℕ) → StuckSo (decode area) why place
         → ReportGiven room (reports.Refused (refusal_of why place))
-    report-11 : in_shape words matrix area ≡ true → (entries : List (Reduction Span)) (moves : ℕ) → ReportedSo (decode area) entries moves
+    report_11 : in_shape words matrix area ≡ true → (entries : List (Reduction Span)) (moves : ℕ) → ReportedSo (decode area) entries moves
         → room < 3 * length entries → ReportGiven room (reports.Refused (NoRoom (3 * length entries)))
-    report-0 : in_shape words matrix area ≡ true → (entries : List (Reduction Span)) (moves : ℕ) → ReportedSo (decode area) entries moves
+    report_0 : in_shape words matrix area ≡ true → (entries : List (Reduction Span)) (moves : ℕ) → ReportedSo (decode area) entries moves
         → 3 * length entries ≤ room → ReportGiven room (reports.Report (length entries) moves)
 
 -- ---- the one-call parse
@@ -109,14 +109,14 @@ pub record Begins (words tokens : List ℕ) (room : ℕ) : Type 0 where
   pub starts : start_answer words (matrix_of (grammar_of words)) tokens [] room ≡ Done
 
 pub data ParseGiven (words tokens : List ℕ) (room out_room : ℕ) : ReportAnswer → Type 1 where
-  parse-words : {refusal : Refusal} → load_answer words 4096 ≡ Refused refusal → ParseGiven words tokens room out_room (reports.Refused refusal)
-  parse-row : {refusal : Refusal} → load_answer words 4096 ≡ Done → start_answer words (matrix_of (grammar_of words)) tokens [] room ≡ Refused refusal
+  parse_words : {refusal : Refusal} → load_answer words 4096 ≡ Refused refusal → ParseGiven words tokens room out_room (reports.Refused refusal)
+  parse_row : {refusal : Refusal} → load_answer words 4096 ≡ Done → start_answer words (matrix_of (grammar_of words)) tokens [] room ≡ Refused refusal
       → ParseGiven words tokens room out_room (reports.Refused refusal)
-  parse-stuck : Begins words tokens room → (reader : UncutReader words tokens) (why : Stuck) (place : ℕ) → StuckSo reader.last why place
+  parse_stuck : Begins words tokens room → (reader : UncutReader words tokens) (why : Stuck) (place : ℕ) → StuckSo reader.last why place
       → ParseGiven words tokens room out_room (reports.Refused (refusal_of why place))
-  parse-11 : Begins words tokens room → (reader : UncutReader words tokens) (entries : List (Reduction Span)) (moves : ℕ)
+  parse_11 : Begins words tokens room → (reader : UncutReader words tokens) (entries : List (Reduction Span)) (moves : ℕ)
       → ReportedSo reader.last entries moves → out_room < 3 * length entries → ParseGiven words tokens room out_room (reports.Refused (NoRoom (3 * length entries)))
-  parse-0 : Begins words tokens room → (reader : UncutReader words tokens) (entries : List (Reduction Span)) (moves : ℕ)
+  parse_0 : Begins words tokens room → (reader : UncutReader words tokens) (entries : List (Reduction Span)) (moves : ℕ)
       → ReportedSo reader.last entries moves → 3 * length entries ≤ out_room → ParseGiven words tokens room out_room (reports.Report (length entries) moves)
 
 module _ (words tokens : List ℕ) (room : ℕ) where
@@ -138,7 +138,7 @@ GivenFor (value-of refusal) = Unit {1}
 GivenFor (stuck-refusal status place) = Unit {1}
 GivenFor (check-symbols words) = (answer : Answer) → (check_symbols words ≡ answer) ↔ Given words symbol_conditions answer
 GivenFor (check-words words) = (answer : Answer) → (check_words words ≡ answer) ↔ Given words word_conditions answer
-GivenFor (body_of words r) = Unit {1}
+GivenFor (body-of words r) = Unit {1}
 GivenFor (load words bytes) = (answer : Answer) → (load_answer words (length bytes) ≡ answer) ↔ Given (lent_to_load words (length bytes)) load_conditions answer
 GivenFor (left-set words k) = (answer : SetAnswer) → (left_set_answer words k ≡ answer) ↔ SetGiven words k (grammar_of words) answer
 GivenFor (right-set words k) = (answer : SetAnswer) → (right_set_answer words k ≡ answer) ↔ SetGiven words k (mirrored (grammar_of words)) answer
@@ -149,7 +149,7 @@ GivenFor (start words matrix tokens cuts area) = (answer : Answer)
 GivenFor (step words matrix area c) = (answer : Answer) → (step_answer words matrix area c ≡ answer) ↔ StepGiven words matrix area c answer
 GivenFor (run words matrix area c budget) = (answer : RunAnswer) → (run_answer words matrix area c budget ≡ answer) ↔ RunGiven words matrix area c budget answer
 GivenFor (join words matrix area c) = (answer : Answer) → (join_answer words matrix area c ≡ answer) ↔ JoinGiven words matrix area c answer
-GivenFor (read_through words matrix tokens area) = (answer : Answer)
+GivenFor (read-through words matrix tokens area) = (answer : Answer)
     → (read_answer words matrix tokens (length area) ≡ answer) ↔ Given (lent_to_start words matrix tokens [] (length area)) start_conditions answer
 GivenFor (report words matrix area out) = (answer : ReportAnswer)
     → (report_answer words matrix area (length out) ≡ answer) ↔ ReportGiven words matrix area (length out) answer

@@ -18,7 +18,7 @@ use Rattle.refusals.specs.declared.Answer.TheVariants.{Done}
 use Rattle.refusals.specs.declared.ReportAnswer.TheVariants.{Report}
 use Rattle.refusals.specs.Refusals.{number_of}
 use Rattle.language.specs.Grammar.{Grammar}
-use Rattle.language.specs.Words.{count_t, too-low, too-high, grammar_of}
+use Rattle.language.specs.Words.{count_t, too_low, too_high, grammar_of}
 use Rattle.language.specs.Matrix.{matrix_of}
 use Rattle.language.specs.Loads.{Accepted, load_answer}
 use Rattle.language.proofs.Loads.{accepted-exactly}
@@ -35,7 +35,7 @@ use Rattle.machine.specs.GivenExactly.{StuckSo}
 use Rattle.machine.proofs.GivenExactly.{report-exactly}
 use Rattle.layout.specs.Layout.{need}
 use Rattle.layout.specs.Lengths.{few-reductions}
-use Rattle.start.specs.Start.{StartInput, NoTokens, no-tokens, TooMany, too_many, WrongToken, wrong-token, Startable, starts-exactly}
+use Rattle.start.specs.Start.{StartInput, NoTokens, no_tokens, TooMany, too_many, WrongToken, wrong_token, Startable, starts-exactly}
 use Rattle.start.specs.StartKept.{no_end}
 use Rattle.shape.specs.Safe.{Safe, safe-start, safe-scheduled}
 use Rattle.parse.specs.ParseCall.{ran_outcome, then_start, parsed_answer, parsed_out, parse_outcome, parse_begun, parse_answer, parse_out}
@@ -46,8 +46,8 @@ use Rattle.machine.proofs.TableOf.{own-end-mark}
 
 -- 1 to 16,384 tokens in 1..T
 pub record RightTokens (words tokens : List ℕ) : Type 0 where
-  pub some-token : 1 ≤ length tokens
-  pub few-tokens : length tokens ≤ 16384
+  pub some_token : 1 ≤ length tokens
+  pub few_tokens : length tokens ≤ 16384
   pub each : (i : ℕ) → i < length tokens → (1 ≤ get_or tokens i 0) × (get_or tokens i 0 ≤ count_t words)
 
 -- the uncut reader: chunk 0 makes one move after the other until it rests
@@ -58,7 +58,7 @@ pub record UncutReader (words tokens : List ℕ) : Type 0 where
 
 -- the reductions of a tree, in the order of its post-order
 abbrev pub entries_of : {g : Grammar} {tokens : List ℕ} → AxiomTree g tokens → List (Reduction Span)
-entries_of t = post_order 0 (forest_of t.of-root.tree)
+entries_of t = post_order 0 (forest_of t.of_root.tree)
 
 -- parse answers these entries and so many moves, and writes the entries; what stands beyond stays
 abbrev pub ParseReports : List ℕ → List ℕ → ℕ → List ℕ → List (Reduction Span) → ℕ → Type 0
@@ -70,11 +70,11 @@ ParseReports words tokens room out entries moves =
 pub record GotStuck (tokens : List ℕ) (last : State Span) (refusal : Refusal) : Type 0 where
   pub why : Stuck
   pub place : ℕ
-  pub stuck-so : StuckSo last why place
+  pub stuck_so : StuckSo last why place
   pub refusal_is : refusal ≡ refusal_of why place
-  pub number-low : 17 ≤ number_of refusal
-  pub number-high : number_of refusal ≤ 19
-  pub place-within : place ≤ length tokens
+  pub number_low : 17 ≤ number_of refusal
+  pub number_high : number_of refusal ≤ 19
+  pub place_within : place ≤ length tokens
 
 module _ {words : List ℕ} (accepted : Accepted words) {tokens : List ℕ} (right : RightTokens words tokens) where
   -- such a row starts uncut
@@ -83,17 +83,17 @@ module _ {words : List ℕ} (accepted : Accepted words) {tokens : List ℕ} (rig
     input = lent words tokens room
 
     pub fine-some : (v : ℕ) → NoTokens input v → ⊥
-    fine-some v (no-tokens e q) = omega (arith, right.some-token)
+    fine-some v (no_tokens e q) = omega (arith, right.some_token)
 
     pub fine-few : (v : ℕ) → TooMany input v → ⊥
-    fine-few v (too_many h q) = omega (arith, right.few-tokens)
+    fine-few v (too_many h q) = omega (arith, right.few_tokens)
 
     pub fine-tokens : (v : ℕ) → WrongToken input v → ⊥
-    fine-tokens v (wrong-token l (too-low h)) = omega (arith, (right.each v l).0)
-    fine-tokens v (wrong-token l (too-high h)) = omega (arith, (right.each v l).1)
+    fine-tokens v (wrong_token l (too_low h)) = omega (arith, (right.each v l).0)
+    fine-tokens v (wrong_token l (too_high h)) = omega (arith, (right.each v l).1)
 
     pub can-start : Startable input
-    can-start = checked-starts words tokens room (record { loads = accepted; some-token = fine-some; few-tokens = fine-few; right-tokens = fine-tokens }) enough
+    can-start = checked-starts words tokens room (record { loads = accepted; some_token = fine-some; few_tokens = fine-few; right_tokens = fine-tokens }) enough
 
     pub parse-begins : parse_begun words tokens room ≡ Done
     unfolding parse_begun
@@ -132,7 +132,7 @@ module _ {words : List ℕ} (accepted : Accepted words) {tokens : List ℕ} (rig
     entries-few {entries} {moves} e =
         let r = (report-exactly reader.last entries moves).0 e in
         let l : length entries ≡ length reader.last.reductions =
-        ap length r.report-is ∙ sym (perm-length (sort-perm stands_before reader.last.reductions)) in
+        ap length r.report_is ∙ sym (perm-length (sort-perm stands_before reader.last.reductions)) in
         omega (arith, few-reductions uncut-safe)
 
     -- runs long enough

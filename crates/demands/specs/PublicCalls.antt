@@ -34,7 +34,7 @@ pub data PublicCall : Type 0 where
   stuck-refusal : (status place : ℕ) → PublicCall
   check-symbols : (words : List ℕ) → PublicCall
   check-words : (words : List ℕ) → PublicCall
-  body_of : (words : List ℕ) (r : ℕ) → PublicCall
+  body-of : (words : List ℕ) (r : ℕ) → PublicCall
   load : (words bytes : List ℕ) → PublicCall
   left-set : (words : List ℕ) (k : ℕ) → PublicCall
   right-set : (words : List ℕ) (k : ℕ) → PublicCall
@@ -44,7 +44,7 @@ pub data PublicCall : Type 0 where
   step : (words matrix area : List ℕ) (c : ℕ) → PublicCall
   run : (words matrix area : List ℕ) (c budget : ℕ) → PublicCall
   join : (words matrix area : List ℕ) (c : ℕ) → PublicCall
-  read_through : (words matrix tokens area : List ℕ) → PublicCall
+  read-through : (words matrix tokens area : List ℕ) → PublicCall
   report : (words matrix area out : List ℕ) → PublicCall
   parse : (words tokens area out : List ℕ) → PublicCall
   entry-tokens : (entries : List ℕ) (e : ℕ) (tokens : List ℕ) (place : ℕ × ℕ) → PublicCall
@@ -56,7 +56,7 @@ GivesBack (value-of refusal) = ℕ
 GivesBack (stuck-refusal status place) = Refusal
 GivesBack (check-symbols words) = Answer
 GivesBack (check-words words) = Answer
-GivesBack (body_of words r) = Body
+GivesBack (body-of words r) = Body
 GivesBack (load words bytes) = Answer × List ℕ
 GivesBack (left-set words k) = SetAnswer
 GivesBack (right-set words k) = SetAnswer
@@ -66,7 +66,7 @@ GivesBack (start words matrix tokens cuts area) = Answer × List ℕ
 GivesBack (step words matrix area c) = Answer × List ℕ
 GivesBack (run words matrix area c budget) = RunAnswer × List ℕ
 GivesBack (join words matrix area c) = Answer × List ℕ
-GivesBack (read_through words matrix tokens area) = Answer × List ℕ
+GivesBack (read-through words matrix tokens area) = Answer × List ℕ
 GivesBack (report words matrix area out) = ReportAnswer × List ℕ
 GivesBack (parse words tokens area out) = ReportAnswer × List ℕ × List ℕ
 GivesBack (entry-tokens entries e tokens place) = List ℕ × (ℕ × ℕ)
@@ -78,7 +78,7 @@ promised (value-of refusal) = value_of refusal
 promised (stuck-refusal status place) = stuck_refusal status place
 promised (check-symbols words) = check_symbols words
 promised (check-words words) = check_words words
-promised (body_of words r) = body_at words r
+promised (body-of words r) = body_at words r
 promised (load words bytes) = (load_answer words (length bytes), load_bytes words bytes)
 promised (left-set words k) = left_set_answer words k
 promised (right-set words k) = right_set_answer words k
@@ -88,7 +88,7 @@ promised (start words matrix tokens cuts area) = (start_answer words matrix toke
 promised (step words matrix area c) = (step_answer words matrix area c, step_area words matrix area c)
 promised (run words matrix area c budget) = (run_answer words matrix area c budget, run_area words matrix area c budget)
 promised (join words matrix area c) = (join_answer words matrix area c, join_area words matrix area c)
-promised (read_through words matrix tokens area) = (read_answer words matrix tokens (length area), read_area words matrix tokens area)
+promised (read-through words matrix tokens area) = (read_answer words matrix tokens (length area), read_area words matrix tokens area)
 promised (report words matrix area out) = (report_answer words matrix area (length out), report_out words matrix area out)
 promised (parse words tokens area out) =
     (parse_answer words tokens (length area) (length out), parse_area words tokens area, parse_out words tokens (length area) out)
@@ -108,7 +108,7 @@ Keeps (value-of refusal) x = x ≡ promised (value-of refusal)
 Keeps (stuck-refusal status place) x = x ≡ promised (stuck-refusal status place)
 Keeps (check-symbols words) x = x ≡ promised (check-symbols words)
 Keeps (check-words words) x = x ≡ promised (check-words words)
-Keeps (body_of words r) x = x ≡ promised (body_of words r)
+Keeps (body-of words r) x = x ≡ promised (body-of words r)
 Keeps (load words bytes) x = Both x (promised (load words bytes))
 Keeps (left-set words k) x = x ≡ promised (left-set words k)
 Keeps (right-set words k) x = x ≡ promised (right-set words k)
@@ -118,7 +118,7 @@ Keeps (start words matrix tokens cuts area) x = Both x (promised (start words ma
 Keeps (step words matrix area c) x = Both x (promised (step words matrix area c))
 Keeps (run words matrix area c budget) x = Both x (promised (run words matrix area c budget))
 Keeps (join words matrix area c) x = Both x (promised (join words matrix area c))
-Keeps (read_through words matrix tokens area) x = Both x (promised (read_through words matrix tokens area))
+Keeps (read-through words matrix tokens area) x = Both x (promised (read-through words matrix tokens area))
 Keeps (report words matrix area out) x = Both x (promised (report words matrix area out))
 Keeps (parse words tokens area out) x = AllThree x (promised (parse words tokens area out))
 Keeps (entry-tokens entries e tokens place) x = Both x (promised (entry-tokens entries e tokens place))
@@ -130,7 +130,7 @@ number_for (value-of refusal) = 0
 number_for (stuck-refusal status place) = 0
 number_for (check-symbols words) = answer_number (check_symbols words)
 number_for (check-words words) = answer_number (check_words words)
-number_for (body_of words r) = 0
+number_for (body-of words r) = 0
 number_for (load words bytes) = answer_number (load_answer words (length bytes))
 number_for (left-set words k) = set_number (left_set_answer words k)
 number_for (right-set words k) = set_number (right_set_answer words k)
@@ -140,7 +140,7 @@ number_for (start words matrix tokens cuts area) = answer_number (start_answer w
 number_for (step words matrix area c) = answer_number (step_answer words matrix area c)
 number_for (run words matrix area c budget) = run_number (run_answer words matrix area c budget)
 number_for (join words matrix area c) = answer_number (join_answer words matrix area c)
-number_for (read_through words matrix tokens area) = answer_number (read_answer words matrix tokens (length area))
+number_for (read-through words matrix tokens area) = answer_number (read_answer words matrix tokens (length area))
 number_for (report words matrix area out) = report_number (report_answer words matrix area (length out))
 number_for (parse words tokens area out) = report_number (parse_answer words tokens (length area) (length out))
 number_for (entry-tokens entries e tokens place) = 0
@@ -152,7 +152,7 @@ numbers_for (value-of refusal) = []
 numbers_for (stuck-refusal status place) = []
 numbers_for (check-symbols words) = 1 ∷ 2 ∷ 3 ∷ []
 numbers_for (check-words words) = 1 ∷ 2 ∷ 3 ∷ 4 ∷ 5 ∷ []
-numbers_for (body_of words r) = []
+numbers_for (body-of words r) = []
 numbers_for (load words bytes) = 1 ∷ 2 ∷ 3 ∷ 4 ∷ 5 ∷ 6 ∷ 11 ∷ []
 numbers_for (left-set words k) = 1 ∷ 2 ∷ 3 ∷ 4 ∷ 5 ∷ 21 ∷ []
 numbers_for (right-set words k) = 1 ∷ 2 ∷ 3 ∷ 4 ∷ 5 ∷ 21 ∷ []
@@ -162,7 +162,7 @@ numbers_for (start words matrix tokens cuts area) = 15 ∷ 7 ∷ 8 ∷ 9 ∷ 10 
 numbers_for (step words matrix area c) = 15 ∷ 12 ∷ 13 ∷ []
 numbers_for (run words matrix area c budget) = 15 ∷ 12 ∷ 13 ∷ []
 numbers_for (join words matrix area c) = 15 ∷ 12 ∷ 14 ∷ []
-numbers_for (read_through words matrix tokens area) = 15 ∷ 7 ∷ 8 ∷ 9 ∷ 11 ∷ []
+numbers_for (read-through words matrix tokens area) = 15 ∷ 7 ∷ 8 ∷ 9 ∷ 11 ∷ []
 numbers_for (report words matrix area out) = 15 ∷ 16 ∷ 17 ∷ 18 ∷ 19 ∷ 20 ∷ 11 ∷ []
 numbers_for (parse words tokens area out) = 1 ∷ 2 ∷ 3 ∷ 4 ∷ 5 ∷ 6 ∷ 7 ∷ 8 ∷ 9 ∷ 11 ∷ 17 ∷ 18 ∷ 19 ∷ 20 ∷ 11 ∷ []
 numbers_for (entry-tokens entries e tokens place) = []
@@ -185,7 +185,7 @@ written (value-of refusal) = []
 written (stuck-refusal status place) = []
 written (check-symbols words) = []
 written (check-words words) = []
-written (body_of words r) = []
+written (body-of words r) = []
 written (load words bytes) = record { before = bytes; after = load_bytes words bytes; counted = 4096 } ∷ []
 written (left-set words k) = []
 written (right-set words k) = []
@@ -196,7 +196,7 @@ written (start words matrix tokens cuts area) =
 written (step words matrix area c) = record { before = area; after = step_area words matrix area c; counted = need_in area } ∷ []
 written (run words matrix area c budget) = record { before = area; after = run_area words matrix area c budget; counted = need_in area } ∷ []
 written (join words matrix area c) = record { before = area; after = join_area words matrix area c; counted = need_in area } ∷ []
-written (read_through words matrix tokens area) = record { before = area; after = read_area words matrix tokens area; counted = need (length tokens) 1 } ∷ []
+written (read-through words matrix tokens area) = record { before = area; after = read_area words matrix tokens area; counted = need (length tokens) 1 } ∷ []
 written (report words matrix area out) =
     record { before = out; after = report_out words matrix area out; counted = words_of (report_answer words matrix area (length out)) } ∷ []
 written (parse words tokens area out) =

@@ -18,10 +18,10 @@ use Rattle.demands.specs.Calls.{Call, call_number, call_area}
 
 -- the numbers of a row's outcome: 16, 17 to 20, and 0 or 11 for a report
 pub data OutcomeNumber (o : Outcome) (room : ℕ) : Type 0 where
-  number-16 : o ≡ refused_row Unfinished → report_number (outcome_answer o room) ≡ 16 → OutcomeNumber o room
-  number-stuck : 17 ≤ report_number (outcome_answer o room) → report_number (outcome_answer o room) ≤ 20 → OutcomeNumber o room
-  number-11 : report_number (outcome_answer o room) ≡ 11 → OutcomeNumber o room
-  number-0 : report_number (outcome_answer o room) ≡ 0 → OutcomeNumber o room
+  number_16 : o ≡ refused_row Unfinished → report_number (outcome_answer o room) ≡ 16 → OutcomeNumber o room
+  number_stuck : 17 ≤ report_number (outcome_answer o room) → report_number (outcome_answer o room) ≤ 20 → OutcomeNumber o room
+  number_11 : report_number (outcome_answer o room) ≡ 11 → OutcomeNumber o room
+  number_0 : report_number (outcome_answer o room) ≡ 0 → OutcomeNumber o room
 
 pub at-17-20 : (why : Stuck) (place : ℕ) → (17 ≤ number_of (refusal_of why place)) × (number_of (refusal_of why place) ≤ 20)
 at-17-20 no_relation place = (omega arith, omega arith)

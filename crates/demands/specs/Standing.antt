@@ -16,16 +16,16 @@ use Rattle.machine.specs.TableOf.{own_table}
 pub record Standing (words tokens cuts area : List ℕ) (made : ℕ) : Type 0 where
   pub state : State Span
   pub rest : List ℕ
-  pub area-is : area ≡ encode (length tokens) state ++ rest
+  pub area_is : area ≡ encode (length tokens) state ++ rest
   pub turns : Schedule (own_table words) (start tokens cuts) made state
 
 -- ---- one call on the words of a state
 
 -- refused with 12, 13 or 14 and nothing changed; or the words of the state that so many named moves lead to
 pub data CallView (words : List ℕ) (n : ℕ) (s : State Span) (rest area : List ℕ) (call : Call) : Type 0 where
-  refused-so : 12 ≤ call_number words area call → call_number words area call ≤ 14 → call_made words area call ≡ 0 → call_area words area call ≡ area
+  refused_so : 12 ≤ call_number words area call → call_number words area call ≤ 14 → call_made words area call ≡ 0 → call_area words area call ≡ area
       → CallView words n s rest area call
-  moved-so : (s' : State Span) → call_number words area call ≡ 0 → call_area words area call ≡ encode n s' ++ rest
+  moved_so : (s' : State Span) → call_number words area call ≡ 0 → call_area words area call ≡ encode n s' ++ rest
       → Schedule (own_table words) s (call_made words area call) s' → CallView words n s rest area call
 
 -- ---- any list of calls

@@ -39,15 +39,15 @@ pub data Question : Type 0 where
   -- a row parsed in one call
   uncut : List ℕ → List ℕ → Question
   -- a row cut in two: both chunks moved until at rest, joined, and moved until at rest
-  cut-at : ℕ → List ℕ → List ℕ → Question
+  cut_at : ℕ → List ℕ → List ℕ → Question
   -- the same row before the join: on what chunk 1 rests
-  before-join : ℕ → List ℕ → List ℕ → Question
+  before_join : ℕ → List ℕ → List ℕ → Question
 
 pub data Reply : Type 0 where
   terminals : ℕ → ℕ → Reply
   success : Reply
   -- the report's words, and the moves
-  report-of : List ℕ → ℕ → Reply
+  report_of : List ℕ → ℕ → Reply
   -- a number and a value
   refusal : ℕ → ℕ → Reply
   -- a chunk that is not stuck
@@ -65,7 +65,7 @@ of_answer (answer.Refused r) = refusal (number_of r) (value_of r)
 
 -- a report's answer, with the words then written
 abbrev pub of_report : ReportAnswer → List ℕ → Reply
-of_report (report.Report entries moves) out = report-of (take (3 * entries) out) moves
+of_report (report.Report entries moves) out = report_of (take (3 * entries) out) moves
 of_report (report.Refused r) out = refusal (number_of r) (value_of r)
 
 -- the matrix that load leaves
@@ -102,10 +102,10 @@ reply_to (right-set words k) = of_set (right_set_answer words k)
 reply_to (loaded words) = of_answer (load_answer words 4096)
 reply_to (uncut words tokens) =
     of_report (parse_answer words tokens (room_for tokens) (3 * length tokens)) (parse_out words tokens (room_for tokens) (zeros (3 * length tokens)))
-reply_to (cut-at cut words tokens) =
+reply_to (cut_at cut words tokens) =
     of_report (report_answer words (bytes_of words) (together cut words tokens) (3 * length tokens))
     (report_out words (bytes_of words) (together cut words tokens) (zeros (3 * length tokens)))
-reply_to (before-join cut words tokens) = of_chunk (chunk_at (decode (apart cut words tokens)) 1)
+reply_to (before_join cut words tokens) = of_chunk (chunk_at (decode (apart cut words tokens)) 1)
 
 -- ---- the samples
 
@@ -134,7 +134,7 @@ cases =
     ∷ case (right-set words_k 0) (terminals 34 2)
     ∷ case (right-set words_k 1) (terminals 38 3)
     -- "1 -> report 0 0 1, 3 moves uncut."
-    ∷ case (uncut words_k (1 ∷ [])) (report-of (0 ∷ 0 ∷ 1 ∷ []) 3)
+    ∷ case (uncut words_k (1 ∷ [])) (report_of (0 ∷ 0 ∷ 1 ∷ []) 3)
     -- "1 1 -> 17 at 1. 3 1 4 -> 17 at 3."
     ∷ case (uncut words_k (1 ∷ 1 ∷ [])) (refusal 17 1)
     ∷ case (uncut words_k (3 ∷ 1 ∷ 4 ∷ [])) (refusal 17 3)
@@ -143,8 +143,8 @@ cases =
     ∷ case (uncut words_k (1 ∷ 2 ∷ [])) (refusal 18 2)
     ∷ case (uncut words_k (3 ∷ 4 ∷ 5 ∷ [])) (refusal 18 3)
     -- "1 2 4 1 1, cut at 3 -> 18 at 2, though chunk 1 rests on 17 at 4."
-    ∷ case (cut-at 3 words_k (1 ∷ 2 ∷ 4 ∷ 1 ∷ 1 ∷ [])) (refusal 18 2)
-    ∷ case (before-join 3 words_k (1 ∷ 2 ∷ 4 ∷ 1 ∷ 1 ∷ [])) (refusal 17 4)
+    ∷ case (cut_at 3 words_k (1 ∷ 2 ∷ 4 ∷ 1 ∷ 1 ∷ [])) (refusal 18 2)
+    ∷ case (before_join 3 words_k (1 ∷ 2 ∷ 4 ∷ 1 ∷ 1 ∷ [])) (refusal 17 4)
     -- "K with a sixth rule L -> I , L: 6, value 130."
     ∷ case (loaded words_k6) (refusal 6 130)
     -- "Words 2 2 1 2, 6 10, 0 257 2 257, 1 1 and row 1 -> 19 at 1."

@@ -9,7 +9,7 @@ use Rattle.laws.specs.Tests.{or_cases, or-first, or-second}
 use Rattle.language.specs.Symbols.{Symbol, terminal, nonterminal}
 use Rattle.language.specs.Grammar.{Grammar, rule_at}
 use Rattle.language.proofs.RightSides.{has-later}
-use Rattle.language.specs.CheckForm.{Adjacent, BadForm, NoTerminal, adjacent, bad_form, form-adjacent, form-bare, no_terminal}
+use Rattle.language.specs.CheckForm.{Adjacent, BadForm, NoTerminal, adjacent, bad_form, form_adjacent, form_bare, no_terminal}
 
 adjacent-after : {w : List Symbol} (x : Symbol) → Adjacent w → Adjacent (x ∷ w)
 adjacent-after x a = record { one = a.one; other = a.other; stand = has-later x a.stand }
@@ -57,9 +57,9 @@ form-finds g = first_finds (bad_form g) (length g.rules) (BadForm g) to of
     to r h e = go (or_cases (adjacent (right r)) (no_terminal (right r)) e)
       where
         go : (adjacent (right r) ≡ true) ⊎ (no_terminal (right r) ≡ true) → BadForm g r
-        go (inl q) = form-adjacent h ((adjacent-iff (right r)).0 q)
-        go (inr q) = form-bare h ((no-terminal-iff (right r)).0 q)
+        go (inl q) = form_adjacent h ((adjacent-iff (right r)).0 q)
+        go (inr q) = form_bare h ((no-terminal-iff (right r)).0 q)
 
     of : (r : ℕ) → BadForm g r → (r < length g.rules) × (bad_form g r ≡ true)
-    of r (form-adjacent h a) = (h, or-first (adjacent (right r)) (no_terminal (right r)) ((adjacent-iff (right r)).1 a))
-    of r (form-bare h n) = (h, or-second (adjacent (right r)) (no_terminal (right r)) ((no-terminal-iff (right r)).1 n))
+    of r (form_adjacent h a) = (h, or-first (adjacent (right r)) (no_terminal (right r)) ((adjacent-iff (right r)).1 a))
+    of r (form_bare h n) = (h, or-second (adjacent (right r)) (no_terminal (right r)) ((no-terminal-iff (right r)).1 n))

@@ -19,12 +19,12 @@ module _ (words : List ℕ) where
   to-symbol : (w : ℕ) → no_symbol words w ≡ true → NoSymbol words w
   to-symbol w e =
       let k = and_both (outside 1 (count_t words) w) (outside 256 (255 + count_n words) w) e in
-      record { no-terminal = (outside-iff 1 (count_t words) w).0 k.0; no-nonterminal = (outside-iff 256 (255 + count_n words) w).0 k.1 }
+      record { no_terminal = (outside-iff 1 (count_t words) w).0 k.0; no_nonterminal = (outside-iff 256 (255 + count_n words) w).0 k.1 }
 
   of-symbol : (w : ℕ) → NoSymbol words w → no_symbol words w ≡ true
   of-symbol w n =
-      both-and (outside 1 (count_t words) w) (outside 256 (255 + count_n words) w) ((outside-iff 1 (count_t words) w).1 n.no-terminal)
-      ((outside-iff 256 (255 + count_n words) w).1 n.no-nonterminal)
+      both-and (outside 1 (count_t words) w) (outside 256 (255 + count_n words) w) ((outside-iff 1 (count_t words) w).1 n.no_terminal)
+      ((outside-iff 256 (255 + count_n words) w).1 n.no_nonterminal)
 
   to-bad : (p : ℕ) → p < length words → bad_symbol words p ≡ true → BadSymbol words p
   to-bad p h e = let k = (any_below-iff (wrong_in words p) (count_r words)).0 e in go k.0 k.1 (or_cases (left_wrong p k.0) (right_wrong p k.0) k.2)

@@ -7,7 +7,7 @@ use Rattle.refusals.specs.declared.Refusal.TheVariants.{Head, Contents, Symbol, 
 use Rattle.refusals.specs.declared.Answer.{Answer}
 use Rattle.refusals.specs.declared.Answer.TheVariants.{Done, Refused}
 use Rattle.language.specs.Words.{grammar_of}
-use Rattle.language.specs.Stages.{Ready, ready, finding, Given, passes-all, fails, passes}
+use Rattle.language.specs.Stages.{Ready, ready, finding, Given, passes_all, fails, passes}
 use Rattle.language.proofs.Stages.{given-exactly}
 use Rattle.language.specs.CheckHead.{BadHead}
 use Rattle.language.proofs.CheckHead.{head-finds}
@@ -19,16 +19,16 @@ use Rattle.language.specs.CheckForm.{BadForm}
 use Rattle.language.proofs.CheckForm.{form-finds}
 use Rattle.language.specs.CheckTwins.{BadTwin}
 use Rattle.language.proofs.CheckTwins.{twins-find}
-use Rattle.language.specs.Checks.{Passed, Told, check_words, told-contents, told-form, told-head, told-passed, told-symbol, told-twin, word_conditions}
+use Rattle.language.specs.Checks.{Passed, Told, check_words, told_contents, told_form, told_head, told_passed, told_symbol, told_twin, word_conditions}
 
 module _ (words : List ℕ) where
   told : {answer : Answer} → Given words word_conditions answer → Told words answer
-  told (fails l) = told-head l
-  told (passes n (fails l)) = told-contents n l
-  told (passes n (passes m (fails l))) = told-symbol n m l
-  told (passes n (passes m (passes k (fails l)))) = told-form n m k l
-  told (passes n (passes m (passes k (passes j (fails l))))) = told-twin n m k j l
-  told (passes n (passes m (passes k (passes j (passes i passes-all))))) = told-passed (record { head = n; contents = m; symbols = k; forms = j; twins = i })
+  told (fails l) = told_head l
+  told (passes n (fails l)) = told_contents n l
+  told (passes n (passes m (fails l))) = told_symbol n m l
+  told (passes n (passes m (passes k (fails l)))) = told_form n m k l
+  told (passes n (passes m (passes k (passes j (fails l))))) = told_twin n m k j l
+  told (passes n (passes m (passes k (passes j (passes i passes_all))))) = told_passed (record { head = n; contents = m; symbols = k; forms = j; twins = i })
 
   -- the searches find what the table names
   pub words-ready : Ready words word_conditions
@@ -49,21 +49,21 @@ module _ (words : List ℕ) where
   head-given v = (λ e. out (words-told (Refused (Head v)) e), λ l. (by (Refused (Head v))).1 (fails l))
     where
       out : Told words (Refused (Head v)) → Least (BadHead words) v
-      out (told-head l) = l
+      out (told_head l) = l
 
   -- 2 is given at v exactly when 1 is not, and v is the first wrong entry, or R where the last body is wrong
   pub contents-given : (v : ℕ) → (check_words words ≡ Refused (Contents v)) ↔ (Nowhere (BadHead words) × Least (BadContents words) v)
   contents-given v = (λ e. out (words-told (Refused (Contents v)) e), λ l. (by (Refused (Contents v))).1 (passes l.0 (fails l.1)))
     where
       out : Told words (Refused (Contents v)) → Nowhere (BadHead words) × Least (BadContents words) v
-      out (told-contents n l) = (n, l)
+      out (told_contents n l) = (n, l)
 
   -- 3 is given at v exactly when 1 and 2 are not, and v is the place of the first wrong body word
   pub symbol-given : (v : ℕ) → (check_words words ≡ Refused (Symbol v)) ↔ (Nowhere (BadHead words) × Nowhere (BadContents words) × Least (BadSymbol words) v)
   symbol-given v = (λ e. out (words-told (Refused (Symbol v)) e), λ l. (by (Refused (Symbol v))).1 (passes l.0 (passes l.1 (fails l.2))))
     where
       out : Told words (Refused (Symbol v)) → Nowhere (BadHead words) × Nowhere (BadContents words) × Least (BadSymbol words) v
-      out (told-symbol n m l) = (n, m, l)
+      out (told_symbol n m l) = (n, m, l)
 
   -- 4 is given at v exactly when 1 to 3 are not, and v is the first rule with two adjacent nonterminals or no terminal
   pub form-given : (v : ℕ) → (check_words words ≡ Refused (Form v))
@@ -71,7 +71,7 @@ module _ (words : List ℕ) where
   form-given v = (λ e. out (words-told (Refused (Form v)) e), λ l. (by (Refused (Form v))).1 (passes l.0 (passes l.1 (passes l.2 (fails l.3)))))
     where
       out : Told words (Refused (Form v)) → Nowhere (BadHead words) × Nowhere (BadContents words) × Nowhere (BadSymbol words) × Least (BadForm (grammar_of words)) v
-      out (told-form n m k l) = (n, m, k, l)
+      out (told_form n m k l) = (n, m, k, l)
 
   -- 5 is given at v exactly when 1 to 4 are not, and v is the least rule with the right side of an earlier one
   pub twin-given : (v : ℕ) → (check_words words ≡ Refused (Twin v))
@@ -83,14 +83,14 @@ module _ (words : List ℕ) where
     where
       out : Told words (Refused (Twin v))
           → Nowhere (BadHead words) × Nowhere (BadContents words) × Nowhere (BadSymbol words) × Nowhere (BadForm (grammar_of words)) × Least (BadTwin (grammar_of words)) v
-      out (told-twin n m k j l) = (n, m, k, j, l)
+      out (told_twin n m k j l) = (n, m, k, j, l)
 
   -- the words pass exactly when none of the five conditions holds anywhere
   pub words-pass : (check_words words ≡ Done) ↔ Passed words
   words-pass = (
     λ e. out (words-told Done e),
-    λ p. (by Done).1 (passes p.head (passes p.contents (passes p.symbols (passes p.forms (passes p.twins passes-all))))),
+    λ p. (by Done).1 (passes p.head (passes p.contents (passes p.symbols (passes p.forms (passes p.twins passes_all))))),
   )
     where
       out : Told words Done → Passed words
-      out (told-passed p) = p
+      out (told_passed p) = p

@@ -11,9 +11,9 @@ use Rattle.language.specs.Grammar.{Grammar}
 use Rattle.language.specs.SetMasks.{InRange}
 use Rattle.language.specs.RelationTests.{equal_test, yields_test, takes_test, in_use, relation_of}
 use Rattle.language.proofs.RelationTests.{equal-exactly, yields-exactly, takes-exactly}
-use Rattle.language.specs.RelationPairs.{Told, told-equal, told-yields, told-takes, told-blank}
+use Rattle.language.specs.RelationPairs.{Told, told_equal, told_yields, told_takes, told_blank}
 use Rattle.language.proofs.RelationPairs.{in-use, equal-pair, yields-pair, relation-told}
-use Rattle.language.specs.Conflicts.{ConflictAt, ConflictFree, Exactly, TwoRelations, clash, clash_at, conflict_stage, equal-and-takes, equal-and-yields, two_of, yields-and-takes}
+use Rattle.language.specs.Conflicts.{ConflictAt, ConflictFree, Exactly, TwoRelations, clash, clash_at, conflict_stage, equal_and_takes, equal_and_yields, two_of, yields_and_takes}
 
 pub clash-exactly : {g : Grammar} → InRange g → (a b : ℕ) → clash g a b ≡ true ↔ TwoRelations g a b
 unfolding clash
@@ -22,9 +22,9 @@ clash-exactly {g} range a b = (out (in_use g a b) (equal_test g a b) (yields_tes
     out : (u e y t : Bool) → equal_test g a b ≡ e → yields_test g a b ≡ y → takes_test g a b ≡ t
         → (elim u as (λ v. Bool) [ false ↦ false | true ↦ two_of e y t ]) ≡ true → TwoRelations g a b
     out false e y t pe py pt q = absurd (false≢true q)
-    out true true true t pe py pt q = equal-and-yields ((equal-exactly g a b).0 pe) ((yields-exactly range a b).0 py)
-    out true true false t pe py pt q = equal-and-takes ((equal-exactly g a b).0 pe) ((takes-exactly range a b).0 (pt ∙ q))
-    out true false true t pe py pt q = yields-and-takes ((yields-exactly range a b).0 py) ((takes-exactly range a b).0 (pt ∙ q))
+    out true true true t pe py pt q = equal_and_yields ((equal-exactly g a b).0 pe) ((yields-exactly range a b).0 py)
+    out true true false t pe py pt q = equal_and_takes ((equal-exactly g a b).0 pe) ((takes-exactly range a b).0 (pt ∙ q))
+    out true false true t pe py pt q = yields_and_takes ((yields-exactly range a b).0 py) ((takes-exactly range a b).0 (pt ∙ q))
     out true false false t pe py pt q = absurd (false≢true q)
 
     used : a ≤ g.terminals → b ≤ g.terminals → two_of (equal_test g a b) (yields_test g a b) (takes_test g a b) ≡ true → clash g a b ≡ true
@@ -39,15 +39,15 @@ clash-exactly {g} range a b = (out (in_use g a b) (equal_test g a b) (yields_tes
     last-two false = refl
 
     back : TwoRelations g a b → clash g a b ≡ true
-    back (equal-and-yields e y) =
+    back (equal_and_yields e y) =
         let p = equal-pair range e in
-        used p.left-used p.right-used (rw ((equal-exactly g a b).1 e, (yields-exactly range a b).1 y))
-    back (equal-and-takes e t) =
+        used p.left_used p.right_used (rw ((equal-exactly g a b).1 e, (yields-exactly range a b).1 y))
+    back (equal_and_takes e t) =
         let p = equal-pair range e in
-        used p.left-used p.right-used (rw ((equal-exactly g a b).1 e, (takes-exactly range a b).1 t) (first-and-last (yields_test g a b)))
-    back (yields-and-takes y t) =
+        used p.left_used p.right_used (rw ((equal-exactly g a b).1 e, (takes-exactly range a b).1 t) (first-and-last (yields_test g a b)))
+    back (yields_and_takes y t) =
         let p = yields-pair range y in
-        used p.left-used p.right-used (rw ((yields-exactly range a b).1 y, (takes-exactly range a b).1 t) (last-two (equal_test g a b)))
+        used p.left_used p.right_used (rw ((yields-exactly range a b).1 y, (takes-exactly range a b).1 t) (last-two (equal_test g a b)))
 
 pub conflict-finds : {g : Grammar} → InRange g → Finds (ConflictAt g) (conflict_stage g)
 unfolding conflict_stage
@@ -57,9 +57,9 @@ conflict-finds {g} range =
 
 -- where terminals are at most 63 every pair with two relations has its number there
 two-used : {g : Grammar} → InRange g → {a b : ℕ} → TwoRelations g a b → (a ≤ g.terminals) × (b ≤ g.terminals)
-two-used range (equal-and-yields e y) = let p = equal-pair range e in (p.left-used, p.right-used)
-two-used range (equal-and-takes e t) = let p = equal-pair range e in (p.left-used, p.right-used)
-two-used range (yields-and-takes y t) = let p = yields-pair range y in (p.left-used, p.right-used)
+two-used range (equal_and_yields e y) = let p = equal-pair range e in (p.left_used, p.right_used)
+two-used range (equal_and_takes e t) = let p = equal-pair range e in (p.left_used, p.right_used)
+two-used range (yields_and_takes y t) = let p = yields-pair range y in (p.left_used, p.right_used)
 
 pub conflict-at : {g : Grammar} → InRange g → g.terminals < 64 → {a b : ℕ} → TwoRelations g a b → ConflictAt g (64 * a + b)
 conflict-at {g} range few {a} {b} two =
@@ -78,29 +78,29 @@ apart : {A : Type 0} {r s : Relation} → r ≡ s → (relation_number r ≡ rel
 apart e n = absurd (n (ap relation_number e))
 
 told-exactly : {g : Grammar} {a b : ℕ} → (TwoRelations g a b → ⊥) → {r : Relation} → Told g a b r → Exactly g a b r
-told-exactly free (told-equal e) = record {
-  is-equal = (λ q. e, λ h. refl);
-  is-yields = (λ q. apart q (omega arith), λ y. absurd (free (equal-and-yields e y)));
-  is-takes = (λ q. apart q (omega arith), λ t. absurd (free (equal-and-takes e t)));
-  is-blank = (λ q. apart q (omega arith), λ n. absurd (n.0 e));
+told-exactly free (told_equal e) = record {
+  is_equal = (λ q. e, λ h. refl);
+  is_yields = (λ q. apart q (omega arith), λ y. absurd (free (equal_and_yields e y)));
+  is_takes = (λ q. apart q (omega arith), λ t. absurd (free (equal_and_takes e t)));
+  is_blank = (λ q. apart q (omega arith), λ n. absurd (n.0 e));
 }
-told-exactly free (told-yields ne y) = record {
-  is-equal = (λ q. apart q (omega arith), λ e. absurd (ne e));
-  is-yields = (λ q. y, λ h. refl);
-  is-takes = (λ q. apart q (omega arith), λ t. absurd (free (yields-and-takes y t)));
-  is-blank = (λ q. apart q (omega arith), λ n. absurd (n.1 y));
+told-exactly free (told_yields ne y) = record {
+  is_equal = (λ q. apart q (omega arith), λ e. absurd (ne e));
+  is_yields = (λ q. y, λ h. refl);
+  is_takes = (λ q. apart q (omega arith), λ t. absurd (free (yields_and_takes y t)));
+  is_blank = (λ q. apart q (omega arith), λ n. absurd (n.1 y));
 }
-told-exactly free (told-takes ne ny t) = record {
-  is-equal = (λ q. apart q (omega arith), λ e. absurd (ne e));
-  is-yields = (λ q. apart q (omega arith), λ y. absurd (ny y));
-  is-takes = (λ q. t, λ h. refl);
-  is-blank = (λ q. apart q (omega arith), λ n. absurd (n.2 t));
+told-exactly free (told_takes ne ny t) = record {
+  is_equal = (λ q. apart q (omega arith), λ e. absurd (ne e));
+  is_yields = (λ q. apart q (omega arith), λ y. absurd (ny y));
+  is_takes = (λ q. t, λ h. refl);
+  is_blank = (λ q. apart q (omega arith), λ n. absurd (n.2 t));
 }
-told-exactly free (told-blank ne ny nt) = record {
-  is-equal = (λ q. apart q (omega arith), λ e. absurd (ne e));
-  is-yields = (λ q. apart q (omega arith), λ y. absurd (ny y));
-  is-takes = (λ q. apart q (omega arith), λ t. absurd (nt t));
-  is-blank = (λ q. (ne, ny, nt), λ n. refl);
+told-exactly free (told_blank ne ny nt) = record {
+  is_equal = (λ q. apart q (omega arith), λ e. absurd (ne e));
+  is_yields = (λ q. apart q (omega arith), λ y. absurd (ny y));
+  is_takes = (λ q. apart q (omega arith), λ t. absurd (nt t));
+  is_blank = (λ q. (ne, ny, nt), λ n. refl);
 }
 
 -- without a conflict relation_of is the pair's one relation

@@ -8,12 +8,12 @@ use mathlib.Core.List.{List, [], ◌∷◌, ◌++◌, append-nil, append_assoc, 
 use Rattle.language.specs.Symbols.{Symbol, terminal, nonterminal}
 use Rattle.language.specs.Grammar.{Grammar, left_side, Spells}
 use Rattle.language.specs.Trees.{Forest, none, leaf, node, frontier, roots, Grown, Tree, forest_of}
-use Rattle.language.specs.Derivations.{Derives, ForestOf, Step, TreeOf, at_once, by-step, terminals}
+use Rattle.language.specs.Derivations.{Derives, ForestOf, Step, TreeOf, at_once, by_step, terminals}
 
 module _ {g : Grammar} where
   pub derives-trans : {u v w : List Symbol} → Derives g u v → Derives g v w → Derives g u w
   derives-trans at_once e = e
-  derives-trans (by-step s d) e = by-step s (derives-trans d e)
+  derives-trans (by_step s d) e = by_step s (derives-trans d e)
 
   -- a step within a longer string
   step-between : {u v : List Symbol} (x y : List Symbol) → Step g u v → Step g (x ++ (u ++ y)) (x ++ (v ++ y))
@@ -29,7 +29,7 @@ module _ {g : Grammar} where
 
   pub derives-between : {u v : List Symbol} (x y : List Symbol) → Derives g u v → Derives g (x ++ (u ++ y)) (x ++ (v ++ y))
   derives-between x y at_once = at_once
-  derives-between x y (by-step s d) = by-step (step-between x y s) (derives-between x y d)
+  derives-between x y (by_step s d) = by_step (step-between x y s) (derives-between x y d)
 
   derives-after : {u v : List Symbol} (x : List Symbol) → Derives g u v → Derives g (x ++ u) (x ++ v)
   derives-after x d = simp append-nil at (derives-between x [] d)
@@ -39,7 +39,7 @@ module _ {g : Grammar} where
 
   -- a rule applied to the first symbol, and what follows
   first_step : {r : ℕ} {w v : List Symbol} (y : List Symbol) → Spells g r w → Derives g (w ++ y) v → Derives g (nonterminal (left_side g r) ∷ y) v
-  first_step {r} {w} y s d = by-step (record { before = []; after = y; rule = r; string = w; spelled = s; from = refl; to = refl }) d
+  first_step {r} {w} y s d = by_step (record { before = []; after = y; rule = r; string = w; spelled = s; from = refl; to = refl }) d
 
   pub forest-derives : (f : Forest) → Grown g f → Derives g (roots g f) (terminals (frontier f))
   forest-derives none h = at_once
@@ -50,18 +50,18 @@ module _ {g : Grammar} where
 
   -- the three ways in which a forest is made, by roots and frontier
   none_of : ForestOf g [] []
-  none_of = record { forest = none; grown = tt; roots-are = refl; frontier-is = refl }
+  none_of = record { forest = none; grown = tt; roots_are = refl; frontier_is = refl }
 
   leaf-of : {c : Symbol} {w : List Symbol} {u : List ℕ} (a : ℕ) → terminal a ≡ c → ForestOf g w u → ForestOf g (c ∷ w) (a ∷ u)
-  leaf-of a e f = record { forest = leaf a f.forest; grown = f.grown; roots-are = rw (e, f.roots-are); frontier-is = rw f.frontier-is }
+  leaf-of a e f = record { forest = leaf a f.forest; grown = f.grown; roots_are = rw (e, f.roots_are); frontier_is = rw f.frontier_is }
 
   node_of : {c : Symbol} {v w : List Symbol} {t u : List ℕ} (r : ℕ) → nonterminal (left_side g r) ≡ c → Spells g r v → ForestOf g v t → ForestOf g w u
       → ForestOf g (c ∷ w) (t ++ u)
   node_of r e s children f = record {
     forest = node r children.forest f.forest;
-    grown = (rw children.roots-are s, children.grown, f.grown);
-    roots-are = rw (e, f.roots-are);
-    frontier-is = rw (children.frontier-is, f.frontier-is);
+    grown = (rw children.roots_are s, children.grown, f.grown);
+    roots_are = rw (e, f.roots_are);
+    frontier_is = rw (children.frontier_is, f.frontier_is);
   }
 
   leaves : (u : List ℕ) → ForestOf g (terminals u) u
@@ -69,7 +69,7 @@ module _ {g : Grammar} where
   leaves (a ∷ u) = leaf-of a refl (leaves u)
 
   standing : (f : Forest) → Grown g f → ForestOf g (roots g f) (frontier f)
-  standing f h = record { forest = f; grown = h; roots-are = refl; frontier-is = refl }
+  standing f h = record { forest = f; grown = h; roots_are = refl; frontier_is = refl }
 
 -- a forest cut in two between its roots
 record Split (g : Grammar) (w y : List Symbol) (u : List ℕ) : Type 0 where
@@ -107,9 +107,9 @@ module _ {g : Grammar} where
 
   derives-forest-at : {w v : List Symbol} {u : List ℕ} → Derives g w v → v ≡ terminals u → ForestOf g w u
   derives-forest-at {u = u} at_once e = rw e (leaves u)
-  derives-forest-at {u = u} (by-step s d) e =
+  derives-forest-at {u = u} (by_step s d) e =
       let f : ForestOf g _ u = derives-forest-at d e in
-      rw (s.from, ← f.frontier-is) (gather s.before s.after f.forest f.grown s.spelled (f.roots-are ∙ s.to))
+      rw (s.from, ← f.frontier_is) (gather s.before s.after f.forest f.grown s.spelled (f.roots_are ∙ s.to))
 
   pub derives-forest : {w : List Symbol} {u : List ℕ} → Derives g w (terminals u) → ForestOf g w u
   derives-forest d = derives-forest-at d refl
@@ -120,13 +120,13 @@ module _ {g : Grammar} where
   tree_of : {k : ℕ} (f : Forest) → Grown g f → roots g f ≡ nonterminal k ∷ [] → TreeOf g k (frontier f)
   tree_of none h e = absurd (nil≢cons e)
   tree_of (leaf a f) h e = let z : ◌≡◌ {A = ℕ} 0 1 = cc in absurd (omega arith)
-  tree_of (node r children none) h e = record { tree = record { rule = r; children = children }; grown = h; root_is = cc; frontier-is = refl }
+  tree_of (node r children none) h e = record { tree = record { rule = r; children = children }; grown = h; root_is = cc; frontier_is = refl }
   tree_of (node r children (leaf a f)) h e = let z : ◌≡◌ {A = ℕ} 0 1 = cc in absurd (omega arith)
   tree_of (node r children (node q below f)) h e = let z : ◌≡◌ {A = ℕ} 0 1 = cc in absurd (omega arith)
 
   pub derives-tree : {k : ℕ} {u : List ℕ} → Derives g (nonterminal k ∷ []) (terminals u) → TreeOf g k u
-  derives-tree {u = u} d = let f : ForestOf g _ u = derives-forest d in rw f.frontier-is at (tree_of f.forest f.grown f.roots-are)
+  derives-tree {u = u} d = let f : ForestOf g _ u = derives-forest d in rw f.frontier_is at (tree_of f.forest f.grown f.roots_are)
 
   -- a nonterminal derives a terminal string exactly when a tree has it as root and frontier
   pub derives-exactly : {k : ℕ} {u : List ℕ} → Derives g (nonterminal k ∷ []) (terminals u) ↔ TreeOf g k u
-  derives-exactly = (derives-tree, λ t. rw (t.root_is, t.frontier-is) at (tree-derives t.tree t.grown))
+  derives-exactly = (derives-tree, λ t. rw (t.root_is, t.frontier_is) at (tree-derives t.tree t.grown))

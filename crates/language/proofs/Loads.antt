@@ -9,7 +9,7 @@ use Rattle.refusals.specs.declared.Refusal.TheVariants.{Conflict, NoRoom, NoNont
 use Rattle.refusals.specs.declared.Answer.{Answer}
 use Rattle.refusals.specs.declared.Answer.TheVariants.{Done, Refused}
 use Rattle.language.specs.Words.{count_n, grammar_of}
-use Rattle.language.specs.Stages.{stages_of, all_asked, Ready, ready, finding, Given, passes-all, fails, passes}
+use Rattle.language.specs.Stages.{stages_of, all_asked, Ready, ready, finding, Given, passes_all, fails, passes}
 use Rattle.language.proofs.Stages.{none_left}
 use Rattle.language.specs.Stages.{then_checked, Follows, stands, goes_on}
 use Rattle.language.proofs.Stages.{checked-append, follows-exactly, failing-finds}
@@ -17,7 +17,7 @@ use Rattle.language.specs.Checks.{word_conditions, check_words, Passed}
 use Rattle.language.proofs.Checks.{words-told, words-pass}
 use Rattle.language.specs.Conflicts.{ConflictFree, ConflictAt}
 use Rattle.language.proofs.Conflicts.{conflict-finds, conflict-none}
-use Rattle.language.proofs.WordsInRange.{in-range, few-terminals}
+use Rattle.language.proofs.WordsInRange.{in_range, few-terminals}
 use Rattle.language.specs.Loads.{Accepted, LoadInput, NoRoomForMatrix, NoSuchNonterminal, SetInput, conflict_condition, load_answer, matrix_room, nonterminal_condition, past-the-last, past_the_last, room_condition}
 use Rattle.language.specs.Loads.{set_checked, too_short}
 
@@ -34,7 +34,7 @@ module _ (words : List ℕ) (room : ℕ) where
   input = record { words = words; room = room }
 
   table-ready : Passed words → Ready input (conflict_condition ∷ room_condition ∷ [])
-  table-ready p = finding (conflict-finds (in-range words p.head p.symbols)) (λ n. finding (room-finds input) (λ m. ready))
+  table-ready p = finding (conflict-finds (in_range words p.head p.symbols)) (λ n. finding (room-finds input) (λ m. ready))
 
   -- 6 and 11 follow 1 to 5
   after-words : load_answer words room ≡ then_checked (check_words words) (stages_of (conflict_condition ∷ room_condition ∷ [])) input
@@ -59,7 +59,7 @@ module _ (words : List ℕ) (room : ℕ) where
   no-conflict : Passed words → Nowhere (ConflictAt (grammar_of words)) → ConflictFree (grammar_of words)
   unfolding grammar_of
   no-conflict p n =
-      let r = in-range words p.head p.symbols in
+      let r = in_range words p.head p.symbols in
       let few = (few-terminals words p.head).1 in
       (conflict-none r (omega arith)).0 ((finds-none (conflict-finds r)).1 n)
 
@@ -86,7 +86,7 @@ module _ (words : List ℕ) (room : ℕ) where
 
   -- load succeeds exactly when the words are accepted and the run has 4,096 bytes or more
   pub accepted-exactly : (load_answer words room ≡ Done) ↔ (Accepted words × (4096 ≤ room))
-  accepted-exactly = (λ e. out ((by Done).0 e), λ l. passed_then l.0.passed (passes (free-nowhere l.0.free) (passes (none-short l.1) passes-all)))
+  accepted-exactly = (λ e. out ((by Done).0 e), λ l. passed_then l.0.passed (passes (free-nowhere l.0.free) (passes (none-short l.1) passes_all)))
     where
       long : Nowhere (NoRoomForMatrix input) → 4096 ≤ room
       long n = ltb-false room 4096 (false-unless (ltb room 4096) (λ e. n 4096 (too_short (ltb-true room 4096 e) refl)))
@@ -95,7 +95,7 @@ module _ (words : List ℕ) (room : ℕ) where
       none-short h v (too_short r q) = omega arith
 
       out : Follows input (check_words words) (conflict_condition ∷ room_condition ∷ []) Done → Accepted words × (4096 ≤ room)
-      out (goes_on d (passes h (passes q passes-all))) =
+      out (goes_on d (passes h (passes q passes_all))) =
           let p = (words-pass words).0 d in
           (record { passed = p; free = no-conflict p h }, long q)
 
@@ -139,7 +139,7 @@ module _ (words : List ℕ) (k : ℕ) where
 
   -- a set is given exactly when 1 to 5 are not, and the number is below N
   pub set_given : (set_checked words k ≡ Done) ↔ (Passed words × (k < count_n words))
-  set_given = (λ e. out ((set-by Done).0 e), λ l. (set-by Done).1 (goes_on ((words-pass words).1 l.0) (passes (none-past l.1) passes-all)))
+  set_given = (λ e. out ((set-by Done).0 e), λ l. (set-by Done).1 (goes_on ((words-pass words).1 l.0) (passes (none-past l.1) passes_all)))
     where
       low : Nowhere (NoSuchNonterminal asking) → k < count_n words
       low n = leb-false (count_n words) k (false-unless (leb (count_n words) k) (λ e. n 0 (past-the-last (leb-true (count_n words) k e) refl)))
@@ -148,4 +148,4 @@ module _ (words : List ℕ) (k : ℕ) where
       none-past h v (past-the-last l q) = omega arith
 
       out : Follows asking (check_words words) (nonterminal_condition ∷ []) Done → Passed words × (k < count_n words)
-      out (goes_on d (passes h passes-all)) = ((words-pass words).0 d, low h)
+      out (goes_on d (passes h passes_all)) = ((words-pass words).0 d, low h)

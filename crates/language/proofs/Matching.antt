@@ -1,6 +1,6 @@
 -- What is proved of specs' Matching. Matching: the least rule whose right side is the given string.
 --
--- Main statements: matching-least and matching-none (what an answer says), matching-of (without twins it is the one rule).
+-- Main statements: matching-least and matching-none (what an answer says), matching_of (without twins it is the one rule).
 use Rattle.std.specs.Prelude.{◌≡◌, refl, Bool, true, false, ◌↔◌, ℕ, zero, suc, ◌<◌, length}
 use mathlib.Core.List.Memᴰ
 use mathlib.Core.List.{List, ◌∷◌, Memᴰ}
@@ -76,5 +76,5 @@ pub spelled_by : {g : Grammar} {r : ℕ} (w : List Symbol) → matching g w ≡ 
 spelled_by {g} {r} w e = ((matching-least g w r).0 e).holds
 
 -- then matching finds the one rule that spells a string
-pub matching-of : {g : Grammar} {r : ℕ} {w : List Symbol} → NoTwins g → Spells g r w → matching g w ≡ some r
-matching-of {g} {r} {w} one s = (matching-least g w r).1 (record { holds = s; least = λ q l t. omega (arith, one q r w t s) })
+pub matching_of : {g : Grammar} {r : ℕ} {w : List Symbol} → NoTwins g → Spells g r w → matching g w ≡ some r
+matching_of {g} {r} {w} one s = (matching-least g w r).1 (record { holds = s; least = λ q l t. omega (arith, one q r w t s) })

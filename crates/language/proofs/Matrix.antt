@@ -8,7 +8,7 @@ use Rattle.language.specs.Symbols.{Relation, blank, yields, equal, takes, relati
 use Rattle.language.specs.Grammar.{Grammar}
 use Rattle.language.specs.SetMasks.{InRange}
 use Rattle.language.specs.RelationTests.{relation_of}
-use Rattle.language.specs.RelationPairs.{Told, told-equal, told-yields, told-takes, told-blank}
+use Rattle.language.specs.RelationPairs.{Told, told_equal, told_yields, told_takes, told_blank}
 use Rattle.language.proofs.RelationPairs.{relation-told, equal-pair, takes-pair, yields-pair, end-equal, unused-blank}
 use Rattle.language.specs.Matrix.{entry_at, matrix_of}
 
@@ -50,10 +50,10 @@ module _ {g : Grammar} (range : InRange g) where
       rw p (go (relation-told range 0 b))
     where
       go : {r : Relation} → Told g 0 b r → relation_number r ≤ 1
-      go (told-equal e) = omega (arith, (equal-pair range e).end_after refl)
-      go (told-yields ne y) = omega arith
-      go (told-takes ne ny t) = omega (arith, (takes-pair range t).left-terminal)
-      go (told-blank ne ny nt) = omega arith
+      go (told_equal e) = omega (arith, (equal-pair range e).end_after refl)
+      go (told_yields ne y) = omega arith
+      go (told_takes ne ny t) = omega (arith, (takes-pair range t).left_terminal)
+      go (told_blank ne ny nt) = omega arith
 
   pub matrix-end-right : (a : ℕ) → 1 ≤ a → a < 64 → (get_or (matrix_of g) (64 * a) 0 ≡ 0) ⊎ (get_or (matrix_of g) (64 * a) 0 ≡ 3)
   matrix-end-right a pos h =
@@ -62,7 +62,7 @@ module _ {g : Grammar} (range : InRange g) where
       rw p (go (relation-told range a 0))
     where
       go : {r : Relation} → Told g a 0 r → (relation_number r ≡ 0) ⊎ (relation_number r ≡ 3)
-      go (told-equal e) = absurd (omega (arith, (equal-pair range e).end_before refl))
-      go (told-yields ne y) = absurd (omega (arith, (yields-pair range y).right-terminal))
-      go (told-takes ne ny t) = inr refl
-      go (told-blank ne ny nt) = inl refl
+      go (told_equal e) = absurd (omega (arith, (equal-pair range e).end_before refl))
+      go (told_yields ne y) = absurd (omega (arith, (yields-pair range y).right_terminal))
+      go (told_takes ne ny t) = inr refl
+      go (told_blank ne ny nt) = inl refl

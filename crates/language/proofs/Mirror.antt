@@ -69,9 +69,9 @@ pub right-least : {g : Grammar} {P : ℕ → ℕ → Type 0} → Ending g P → 
 right-least {g} E (starts {r = r} {a = a} {w = w} s) =
     rw (mirrored-left g r) (E.ends (spells-mirrored s) (ends_turned (terminal a ∷ []) w))
 right-least {g} E (starts-after {r = r} {a = a} {k = k} {w = w} s) =
-    rw (mirrored-left g r) (E.ends-before (spells-mirrored s) (ends_turned (nonterminal k ∷ terminal a ∷ []) w))
+    rw (mirrored-left g r) (E.ends_before (spells-mirrored s) (ends_turned (nonterminal k ∷ terminal a ∷ []) w))
 right-least {g} E (starts-within {r = r} {a = a} {k = k} {w = w} s h) =
-    rw (mirrored-left g r) (E.ends-within (spells-mirrored s) (ends_turned (nonterminal k ∷ []) w) (right-least E h))
+    rw (mirrored-left g r) (E.ends_within (spells-mirrored s) (ends_turned (nonterminal k ∷ []) w) (right-least E h))
 
 pub right-ending : (g : Grammar) → Ending g (InRight g)
-right-ending g = record { ends = right-ends; ends-before = right-ends-before; ends-within = right-ends-within }
+right-ending g = record { ends = right-ends; ends_before = right-ends-before; ends_within = right-ends-within }

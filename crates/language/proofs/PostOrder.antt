@@ -29,11 +29,11 @@ module _ {g : Grammar} where
   put-before t e k = record {
     tree = k.tree;
     grown = k.grown;
-    rule-is = k.rule-is;
+    rule_is = k.rule_is;
     before = t ++ k.before;
     after = k.after;
     row_is = rw k.row_is (simp append_assoc);
-    first-is = simp length-append (omega (arith, k.first-is));
+    first_is = simp length-append (omega (arith, k.first_is));
     after_is = k.after_is;
   }
 
@@ -41,11 +41,11 @@ module _ {g : Grammar} where
   put-after t k = record {
     tree = k.tree;
     grown = k.grown;
-    rule-is = k.rule-is;
+    rule_is = k.rule_is;
     before = k.before;
     after = k.after ++ t;
     row_is = rw k.row_is (simp append_assoc);
-    first-is = k.first-is;
+    first_is = k.first_is;
     after_is = k.after_is;
   }
 
@@ -54,11 +54,11 @@ module _ {g : Grammar} where
   own-tree i t tree h = record {
     tree = tree;
     grown = h;
-    rule-is = refl;
+    rule_is = refl;
     before = [];
     after = t;
     row_is = simp append-nil;
-    first-is = omega arith;
+    first_is = omega arith;
     after_is = simp append-nil;
   }
 

@@ -8,7 +8,7 @@ use Rattle.std.proofs.lemmas.Bool.{false≢true}
 use Rattle.laws.specs.Tests.{eqb-true, eq-eqb, or_cases, or-first, or-second}
 use Rattle.language.specs.Symbols.{Symbol, terminal, nonterminal}
 use Rattle.language.specs.Grammar.{Has}
-use Rattle.language.specs.RightSides.{HasAfter, HasAround, HasBefore, Passing, Pattern, StartsAfter, StartsWith, StartsWithin, and-this, and_one, done, fits}
+use Rattle.language.specs.RightSides.{HasAfter, HasAround, HasBefore, Passing, Pattern, StartsAfter, StartsWith, StartsWithin, and_this, and_one, done, fits}
 use Rattle.language.specs.RightSides.{has_after, has_around, has_before, has_then, one, passes, somewhere, starts_after, starts_with, starts_within, this}
 
 record Starting (ps : List Pattern) (w : List Symbol) : Type 0 where
@@ -27,7 +27,7 @@ starts-later x s = record { after = s.after; is = ap {B = List Symbol} (λ v. x 
 starting-more : (p : Pattern) (x : Symbol) {ps : List Pattern} {w : List Symbol} → passes p x ≡ true → Starting ps w → Starting (p ∷ ps) (x ∷ w)
 starting-more (this a) (terminal b) q s =
     let e : b ≡ a = sym (eqb-true a b q) in
-    rw e (record { part = terminal a ∷ s.part; passing = and-this s.passing; starts = starts-later (terminal a) s.starts })
+    rw e (record { part = terminal a ∷ s.part; passing = and_this s.passing; starts = starts-later (terminal a) s.starts })
 starting-more (this a) (nonterminal k) q s = absurd (false≢true q)
 starting-more (one has) (terminal b) q s = absurd (false≢true q)
 starting-more (one has) (nonterminal k) q s =
@@ -47,7 +47,7 @@ fits_more p x ps w e t = rw (e, fits) t
 
 fits_in : {ps : List Pattern} {part : List Symbol} (after : List Symbol) → Passing ps part → fits ps (part ++ after) ≡ true
 fits_in after done = refl
-fits_in after (and-this {a = a} {ps = ps} {part = part} s) = fits_more (this a) (terminal a) ps (part ++ after) (eq-eqb a a refl) (fits_in after s)
+fits_in after (and_this {a = a} {ps = ps} {part = part} s) = fits_more (this a) (terminal a) ps (part ++ after) (eq-eqb a a refl) (fits_in after s)
 fits_in after (and_one {has = has} {k = k} {ps = ps} {part = part} h s) = fits_more (one has) (nonterminal k) ps (part ++ after) h (fits_in after s)
 
 -- what stands in a string stands in a longer one
@@ -81,17 +81,17 @@ starts-in : {ps : List Pattern} {part w : List Symbol} → Passing ps part → S
 starts-in s e = rw e.is (fits_in e.after s)
 
 pub starts-with-exactly : {a : ℕ} {w : List Symbol} → starts_with a w ≡ true ↔ StartsWith (terminal a ∷ []) w
-starts-with-exactly {a} {w} = (λ t. let s = fits_out (this a ∷ []) w t in out s.passing s.starts, starts-in (and-this done))
+starts-with-exactly {a} {w} = (λ t. let s = fits_out (this a ∷ []) w t in out s.passing s.starts, starts-in (and_this done))
   where
     out : {part : List Symbol} → Passing (this a ∷ []) part → StartsWith part w → StartsWith (terminal a ∷ []) w
-    out (and-this done) s = s
+    out (and_this done) s = s
 
 pub starts-after-exactly : {a : ℕ} {w : List Symbol} → starts_after a w ≡ true ↔ StartsAfter a w
 starts-after-exactly {a} {w} =
-    (λ t. let s = fits_out (one (λ k. true) ∷ this a ∷ []) w t in out s.passing s.starts, λ s. starts-in (and_one refl (and-this done)) s.starts)
+    (λ t. let s = fits_out (one (λ k. true) ∷ this a ∷ []) w t in out s.passing s.starts, λ s. starts-in (and_one refl (and_this done)) s.starts)
   where
     out : {part : List Symbol} → Passing (one (λ k. true) ∷ this a ∷ []) part → StartsWith part w → StartsAfter a w
-    out (and_one {k = k} h (and-this done)) s = record { number = k; starts = s }
+    out (and_one {k = k} h (and_this done)) s = record { number = k; starts = s }
 
 pub starts-within-exactly : {has : ℕ → Bool} {w : List Symbol} → starts_within has w ≡ true ↔ StartsWithin has w
 starts-within-exactly {has} {w} =
@@ -101,30 +101,30 @@ starts-within-exactly {has} {w} =
     out (and_one {k = k} h done) s = record { number = k; starts = s; holds = h }
 
 pub has-then-exactly : {a b : ℕ} {w : List Symbol} → has_then a b w ≡ true ↔ Has (terminal a ∷ terminal b ∷ []) w
-has-then-exactly {a} {b} {w} = (λ t. let h = somewhere-out (this a ∷ this b ∷ []) w t in out h.passing h.has, somewhere-in (and-this (and-this done)))
+has-then-exactly {a} {b} {w} = (λ t. let h = somewhere-out (this a ∷ this b ∷ []) w t in out h.passing h.has, somewhere-in (and_this (and_this done)))
   where
     out : {part : List Symbol} → Passing (this a ∷ this b ∷ []) part → Has part w → Has (terminal a ∷ terminal b ∷ []) w
-    out (and-this (and-this done)) h = h
+    out (and_this (and_this done)) h = h
 
 pub has-around-exactly : {a b : ℕ} {w : List Symbol} → has_around a b w ≡ true ↔ HasAround a b w
 has-around-exactly {a} {b} {w} = (
   λ t. let h = somewhere-out (this a ∷ one (λ k. true) ∷ this b ∷ []) w t in out h.passing h.has,
-  λ h. somewhere-in (and-this (and_one refl (and-this done))) h.has,
+  λ h. somewhere-in (and_this (and_one refl (and_this done))) h.has,
 )
   where
     out : {part : List Symbol} → Passing (this a ∷ one (λ k. true) ∷ this b ∷ []) part → Has part w → HasAround a b w
-    out (and-this (and_one {k = k} t (and-this done))) h = record { number = k; has = h }
+    out (and_this (and_one {k = k} t (and_this done))) h = record { number = k; has = h }
 
 pub has-before-exactly : {a : ℕ} {has : ℕ → Bool} {w : List Symbol} → has_before a has w ≡ true ↔ HasBefore a has w
 has-before-exactly {a} {has} {w} =
-    (λ t. let h = somewhere-out (this a ∷ one has ∷ []) w t in out h.passing h.has, λ h. somewhere-in (and-this (and_one h.holds done)) h.is)
+    (λ t. let h = somewhere-out (this a ∷ one has ∷ []) w t in out h.passing h.has, λ h. somewhere-in (and_this (and_one h.holds done)) h.is)
   where
     out : {part : List Symbol} → Passing (this a ∷ one has ∷ []) part → Has part w → HasBefore a has w
-    out (and-this (and_one {k = k} t done)) h = record { number = k; is = h; holds = t }
+    out (and_this (and_one {k = k} t done)) h = record { number = k; is = h; holds = t }
 
 pub has-after-exactly : {has : ℕ → Bool} {b : ℕ} {w : List Symbol} → has_after has b w ≡ true ↔ HasAfter has b w
 has-after-exactly {has} {b} {w} =
-    (λ t. let h = somewhere-out (one has ∷ this b ∷ []) w t in out h.passing h.has, λ h. somewhere-in (and_one h.holds (and-this done)) h.is)
+    (λ t. let h = somewhere-out (one has ∷ this b ∷ []) w t in out h.passing h.has, λ h. somewhere-in (and_one h.holds (and_this done)) h.is)
   where
     out : {part : List Symbol} → Passing (one has ∷ this b ∷ []) part → Has part w → HasAfter has b w
-    out (and_one {k = k} t (and-this done)) h = record { number = k; is = h; holds = t }
+    out (and_one {k = k} t (and_this done)) h = record { number = k; is = h; holds = t }

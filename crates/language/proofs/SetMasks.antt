@@ -36,30 +36,30 @@ any-rule-exactly g test = (out, back)
 
 -- a right side that brings a, in the three ways
 data Brings (a : ℕ) (has : ℕ → Bool) (w : List Symbol) : Type 0 where
-  by-start : StartsWith (terminal a ∷ []) w → Brings a has w
-  by-second : StartsAfter a w → Brings a has w
-  by-set : StartsWithin has w → Brings a has w
+  by_start : StartsWith (terminal a ∷ []) w → Brings a has w
+  by_second : StartsAfter a w → Brings a has w
+  by_set : StartsWithin has w → Brings a has w
 
 brings-out : (a : ℕ) (has : ℕ → Bool) (w : List Symbol) → brings a has w ≡ true → Brings a has w
 brings-out a has w t = go (or_cases (starts_with a w || starts_after a w) (starts_within has w) t)
   where
     early : (starts_with a w ≡ true) ⊎ (starts_after a w ≡ true) → Brings a has w
-    early (inl q) = by-start (starts-with-exactly.0 q)
-    early (inr q) = by-second (starts-after-exactly.0 q)
+    early (inl q) = by_start (starts-with-exactly.0 q)
+    early (inr q) = by_second (starts-after-exactly.0 q)
 
     go : ((starts_with a w || starts_after a w) ≡ true) ⊎ (starts_within has w ≡ true) → Brings a has w
     go (inl q) = early (or_cases (starts_with a w) (starts_after a w) q)
-    go (inr q) = by-set (starts-within-exactly.0 q)
+    go (inr q) = by_set (starts-within-exactly.0 q)
 
 brings-in : {a : ℕ} {has : ℕ → Bool} {w : List Symbol} → Brings a has w → brings a has w ≡ true
-brings-in (by-start s) = rw (starts-with-exactly.1 s)
-brings-in {a} {has} {w} (by-second s) = rw (starts-after-exactly.1 s, or-true (starts_with a w))
-brings-in {a} {has} {w} (by-set s) = rw (starts-within-exactly.1 s) (or-true (starts_with a w || starts_after a w))
+brings-in (by_start s) = rw (starts-with-exactly.1 s)
+brings-in {a} {has} {w} (by_second s) = rw (starts-after-exactly.1 s, or-true (starts_with a w))
+brings-in {a} {has} {w} (by_set s) = rw (starts-within-exactly.1 s) (or-true (starts_with a w || starts_after a w))
 
 brings-more : {a : ℕ} {has more : ℕ → Bool} {w : List Symbol} → ((k : ℕ) → has k ≡ true → more k ≡ true) → Brings a has w → Brings a more w
-brings-more h (by-start s) = by-start s
-brings-more h (by-second s) = by-second s
-brings-more h (by-set s) = by-set (record { number = s.number; starts = s.starts; holds = h s.number s.holds })
+brings-more h (by_start s) = by_start s
+brings-more h (by_second s) = by_second s
+brings-more h (by_set s) = by_set (record { number = s.number; starts = s.starts; holds = h s.number s.holds })
 
 -- a rule X -> w that brings a
 record Gains (g : Grammar) (a : ℕ) (has : ℕ → Bool) (x : ℕ) : Type 0 where
@@ -89,9 +89,9 @@ module _ (g : Grammar) (a : ℕ) where
 
   -- a pass on what is in the left sets gives what is in them
   brings-sound : {has : ℕ → Bool} {r : ℕ} {w : List Symbol} → ((k : ℕ) → has k ≡ true → InLeft g k a) → Spells g r w → Brings a has w → InLeft g (left_side g r) a
-  brings-sound sound s (by-start b) = starts (rw b.is at s)
-  brings-sound sound s (by-second b) = starts-after (rw b.starts.is at s)
-  brings-sound sound s (by-set b) = starts-within (rw b.starts.is at s) (sound b.number b.holds)
+  brings-sound sound s (by_start b) = starts (rw b.is at s)
+  brings-sound sound s (by_second b) = starts-after (rw b.starts.is at s)
+  brings-sound sound s (by_set b) = starts-within (rw b.starts.is at s) (sound b.number b.holds)
 
   pass-sound : (has : ℕ → Bool) → ((k : ℕ) → has k ≡ true → InLeft g k a) → (x : ℕ) → left_pass g a has x ≡ true → InLeft g x a
   pass-sound has sound x t = let s = pass-out has x t in rw (← s.of) (brings-sound sound s.spelled s.brought)
@@ -103,10 +103,10 @@ module _ (g : Grammar) (a : ℕ) where
         rests (left_side g r) (range.left_below s) ∙ pass-in (record { rule = r; right = w; spelled = s; of = refl; brought = b })
 
     rest-complete : {x : ℕ} → InLeft g x a → has x ≡ true
-    rest-complete (starts {w = w} s) = brings-complete s (by-start (record { after = w; is = refl }))
-    rest-complete (starts-after {k = k} {w = w} s) = brings-complete s (by-second (record { number = k; starts = record { after = w; is = refl } }))
+    rest-complete (starts {w = w} s) = brings-complete s (by_start (record { after = w; is = refl }))
+    rest-complete (starts-after {k = k} {w = w} s) = brings-complete s (by_second (record { number = k; starts = record { after = w; is = refl } }))
     rest-complete (starts-within {k = k} {w = w} s h) =
-        brings-complete s (by-set (record { number = k; starts = record { after = w; is = refl }; holds = rest-complete h }))
+        brings-complete s (by_set (record { number = k; starts = record { after = w; is = refl }; holds = rest-complete h }))
 
 -- what stands after N passes is membership in the least set
 pub left-member-exactly : {g : Grammar} → InRange g → (x a : ℕ) → left_member g x a ≡ true ↔ InLeft g x a
@@ -117,7 +117,7 @@ left-member-exactly {g} range x a = (
 )
 
 pub terminal-in : {g : Grammar} → InRange g → {r a : ℕ} {w : List Symbol} → Spells g r w → Has (terminal a ∷ []) w → (1 ≤ a) × (a ≤ g.terminals)
-terminal-in range s h = (range.terminal-positive s h, range.terminal-within s h)
+terminal-in range s h = (range.terminal_positive s h, range.terminal_within s h)
 
 -- only terminals are in a left set
 pub left-within : {g : Grammar} → InRange g → {x a : ℕ} → InLeft g x a → (1 ≤ a) × (a ≤ g.terminals)
@@ -164,9 +164,9 @@ pub in-range-mirrored : {g : Grammar} → InRange g → InRange (mirrored g)
 unfolding mirrored
 in-range-mirrored {g} range = record {
   left_below = λ {r} s. rw (mirrored-left g r) (range.left_below (spells-mirrored s));
-  nonterminal-below = λ s h. range.nonterminal-below (spells-mirrored s) (has-turned h);
-  terminal-positive = λ s h. range.terminal-positive (spells-mirrored s) (has-turned h);
-  terminal-within = λ s h. range.terminal-within (spells-mirrored s) (has-turned h);
+  nonterminal_below = λ s h. range.nonterminal_below (spells-mirrored s) (has-turned h);
+  terminal_positive = λ s h. range.terminal_positive (spells-mirrored s) (has-turned h);
+  terminal_within = λ s h. range.terminal_within (spells-mirrored s) (has-turned h);
 }
 
 pub right-within : {g : Grammar} → InRange g → {x a : ℕ} → InRight g x a → (1 ≤ a) × (a ≤ g.terminals)

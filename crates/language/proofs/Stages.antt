@@ -9,13 +9,13 @@ use Rattle.laws.specs.Least.{Nowhere, Finds, nowhere, least, least-once}
 use Rattle.refusals.specs.declared.Refusal.{Refusal}
 use Rattle.refusals.specs.declared.Answer.{Answer}
 use Rattle.refusals.specs.declared.Answer.TheVariants.{Done, Refused}
-use Rattle.language.specs.Stages.{Condition, Follows, Given, Ready, Stage, checked, failing, fails, finding, goes_on, passes, passes-all}
+use Rattle.language.specs.Stages.{Condition, Follows, Given, Ready, Stage, checked, failing, fails, finding, goes_on, passes, passes_all}
 use Rattle.language.specs.Stages.{ready, refused_by, stages_of, stands, then_checked}
 
 module _ {Input : Type 0} (input : Input) where
   -- the answer is a given one
   pub given : {cs : List (Condition Input)} → Ready input cs → Given input cs (checked (stages_of cs) input)
-  given ready = passes-all
+  given ready = passes_all
   given (finding {c = c} {cs = cs} f next) = go (c.stage.fails_at input) f (λ n. given (next n))
     where
       go : (found : Option ℕ) → Finds (c.Holds input) found → (Nowhere (c.Holds input) → Given input cs (checked (stages_of cs) input))
@@ -25,7 +25,7 @@ module _ {Input : Type 0} (input : Input) where
 
   -- no other answer is given
   pub given-once : {cs : List (Condition Input)} {a b : Answer} → Given input cs a → Given input cs b → a ≡ b
-  given-once passes-all passes-all = refl
+  given-once passes_all passes_all = refl
   given-once (fails {c = c} l) (fails m) = ap (λ v. Refused (c.stage.refusal v)) (least-once l m)
   given-once (fails {v = v} l) (passes n h) = absurd (n v l.holds)
   given-once (passes n g) (fails {v = v} m) = absurd (n v m.holds)

@@ -12,9 +12,9 @@ use Rattle.machine.specs.Entries.{Unread, Entry}
 use Rattle.machine.specs.Moves.{Table, Action, reads, replaces, sticks, move}
 use Rattle.machine.specs.Chunks.{Status, running, stuck, Chunk, Turn, rests, makes, at_rest, done, turn_of, turn, joined}
 use Rattle.machine.specs.States.{State, Called, refused, became, Next, chunk_at, step_by, step, under, next_live, join_with, join, live}
-use Rattle.machine.specs.Schedules.{AllListed, Changed, Follows, IsLive, Listed, Made, Schedule, Turned, Turns, at-rest, by-join, by-step}
-use Rattle.machine.specs.Schedules.{follows, further, got-stuck, has-read, has-replaced, in-motion, joins-two, moves-one, no-turn, no_change, nothing, one-change}
-use Rattle.machine.specs.Schedules.{one-turn}
+use Rattle.machine.specs.Schedules.{AllListed, Changed, Follows, IsLive, Listed, Made, Schedule, Turned, Turns, at-rest, by_join, by_step}
+use Rattle.machine.specs.Schedules.{follows, further, got_stuck, has_read, has_replaced, in_motion, joins_two, moves_one, no_turn, no_change, nothing, one_change}
+use Rattle.machine.specs.Schedules.{one_turn}
 
 module _ {Value : Type 0} (table : Table Value) where
   -- what a chunk does in its turn: it rests, or it makes one move
@@ -23,9 +23,9 @@ module _ {Value : Type 0} (table : Table Value) where
     where
       act : (stack : List (Entry Value)) (b : Unread Value) (unread : List (Unread Value)) (a : Action Value) → move table stack b ≡ a
           → Turns table (record { stack = stack; unread = b ∷ unread; status = running }) (done a stack b unread)
-      act stack b unread (reads stack') q = in-motion refl (has-read b q)
-      act stack b unread (replaces r v stack') q = in-motion refl (has-replaced b q)
-      act stack b unread (sticks why) q = in-motion refl (got-stuck b q)
+      act stack b unread (reads stack') q = in_motion refl (has_read b q)
+      act stack b unread (replaces r v stack') q = in_motion refl (has_replaced b q)
+      act stack b unread (sticks why) q = in_motion refl (got_stuck b q)
 
       go : (status : Status) (stack : List (Entry Value)) (unread : List (Unread Value))
           → Turns table (record { stack = stack; unread = unread; status = status }) (turn_of table status stack unread)
@@ -35,8 +35,8 @@ module _ {Value : Type 0} (table : Table Value) where
 
   -- some chunk is left
   pub some_left : {chunks chunks' : List (Chunk Value)} {made : List (Reduction Value)} → Changed table chunks made chunks' → 0 < length chunks'
-  some_left (moves-one m) = omega arith
-  some_left (joins-two a b) = omega arith
+  some_left (moves_one m) = omega arith
+  some_left (joins_two a b) = omega arith
   some_left (further m) = omega arith
 
   zero-after-move : (chunks : List (Option (Chunk Value))) (n : ℕ) (c : Chunk Value) → IsLive (get_or chunks 0 none) → IsLive (get_or (set chunks n (some c)) 0 none)
@@ -52,7 +52,7 @@ module _ {Value : Type 0} (table : Table Value) where
       → Made table c made c' → Changed table (live chunks) made (live (set chunks n (some c')))
   move-listed [] n q m = let z : ◌≡◌ {A = ℕ} 0 1 = cc in absurd (omega arith)
   move-listed (none ∷ chunks) zero q m = let z : ◌≡◌ {A = ℕ} 0 1 = cc in absurd (omega arith)
-  move-listed (some d ∷ chunks) zero {c} q m = let z : d ≡ c = cc in rw z (moves-one m)
+  move-listed (some d ∷ chunks) zero {c} q m = let z : d ≡ c = cc in rw z (moves_one m)
   move-listed (none ∷ chunks) (suc n) q m = move-listed chunks n q m
   move-listed (some d ∷ chunks) (suc n) q m = further (move-listed chunks n q m)
 
@@ -61,8 +61,8 @@ module _ {Value : Type 0} (table : Table Value) where
     where
       by : {chunk : Chunk Value} (t : Turn Value) → chunk_at s c ≡ some chunk → Turns table chunk t → Answer s (step_by c s t)
       by rests q t = refuses
-      by (makes made chunk') q (in-motion r m) =
-          becomes (record { made = made; changed = move-listed s.chunks c q m; added = refl; counted = refl; zero-stays = zero-after-move s.chunks c chunk' })
+      by (makes made chunk') q (in_motion r m) =
+          becomes (record { made = made; changed = move-listed s.chunks c q m; added = refl; counted = refl; zero_stays = zero-after-move s.chunks c chunk' })
 
       go : (o : Option (Chunk Value)) → chunk_at s c ≡ o → Answer s (elim o [ none ↦ refused NoChunk | some chunk ↦ step_by c s (turn table chunk) ])
       go none q = refuses
@@ -84,7 +84,7 @@ module _ {Value : Type 0} (table : Table Value) where
       → Changed table (live chunks) [] (live (take n chunks ++ (some (joined c next.chunk) ∷ next.rest)))
   join-listed [] n next q f a b = let z : ◌≡◌ {A = ℕ} 0 1 = cc in absurd (omega arith)
   join-listed (none ∷ chunks) zero next q f a b = let z : ◌≡◌ {A = ℕ} 0 1 = cc in absurd (omega arith)
-  join-listed (some d ∷ chunks) zero {c} next q (follows e) a b = let z : d ≡ c = cc in rw (z, e) (joins-two a b)
+  join-listed (some d ∷ chunks) zero {c} next q (follows e) a b = let z : d ≡ c = cc in rw (z, e) (joins_two a b)
   join-listed (none ∷ chunks) (suc n) next q f a b = join-listed chunks n next q f a b
   join-listed (some d ∷ chunks) (suc n) next q f a b = further (join-listed chunks n next q f a b)
 
@@ -107,7 +107,7 @@ module _ {Value : Type 0} (table : Table Value) where
             changed = join-listed s.chunks c next q f p r;
             added = sym (append-nil _);
             counted = refl;
-            zero-stays = zero-after-join s.chunks c (joined chunk next.chunk) next.rest;
+            zero_stays = zero-after-join s.chunks c (joined chunk next.chunk) next.rest;
           }))
 
       by : (chunk : Chunk Value) (o : Option (Next Value)) → chunk_at s c ≡ some chunk → Follows (drop (suc c) s.chunks) o
@@ -130,17 +130,17 @@ module _ {Value : Type 0} (table : Table Value) where
       of (becomes l) = l
 
       go : Turned table s s' → Listed table s s'
-      go (by-step c q) = of (rw q at (step-answer table c s))
-      go (by-join c q) = of (rw q at (join-answer c s))
+      go (by_step c q) = of (rw q at (step-answer table c s))
+      go (by_join c q) = of (rw q at (join-answer c s))
 
   pub schedule-listed : {s s' : State Value} {n : ℕ} → Schedule table s n s' → AllListed table s n s'
-  schedule-listed {s} no-turn = record { made = []; changes = no_change; added = sym (append-nil _); counted = omega arith }
-  schedule-listed {s} (one-turn {s' = s₁} t k) =
+  schedule-listed {s} no_turn = record { made = []; changes = no_change; added = sym (append-nil _); counted = omega arith }
+  schedule-listed {s} (one_turn {s' = s₁} t k) =
       let one = listed t in
       let all = schedule-listed k in
       record {
         made = one.made ++ all.made;
-        changes = one-change one.changed all.changes;
+        changes = one_change one.changed all.changes;
         added = all.added ∙ ap (λ l. l ++ all.made) one.added ∙ append_assoc s.reductions one.made all.made;
         counted = omega (arith, one.counted, all.counted);
       }

@@ -15,8 +15,8 @@ use Rattle.language.proofs.RelationPairs.{end-relations, unused-blank}
 use Rattle.language.proofs.Conflicts.{relation-exactly}
 use Rattle.language.specs.Matrix.{matrix_of}
 use Rattle.language.proofs.Matrix.{matrix-at, matrix-length}
-use Rattle.language.proofs.Matching.{spelled_by, matching-of}
-use Rattle.language.proofs.WordsInRange.{in-range, few-terminals}
+use Rattle.language.proofs.Matching.{spelled_by, matching_of}
+use Rattle.language.proofs.WordsInRange.{in_range, few-terminals}
 use Rattle.language.proofs.PassedWords.{never-adjacent, have-terminals, no-twins}
 use Rattle.language.specs.Loads.{Accepted}
 use Rattle.language.specs.Trees.{Span}
@@ -52,7 +52,7 @@ module _ (words : List ℕ) (accepted : Accepted words) (rest : List ℕ) where
   table = table_of words (matrix_of g ++ rest)
 
   range : InRange g
-  range = in-range words accepted.passed.head accepted.passed.symbols
+  range = in_range words accepted.passed.head accepted.passed.symbols
 
   few : g.terminals ≤ 63
   unfolding grammar_of
@@ -66,27 +66,27 @@ module _ (words : List ℕ) (accepted : Accepted words) (rest : List ℕ) where
   end-mark-of-words =
       let e = end-relations range in
       record {
-        nothing-yields = λ a q. e.nothing-yields a (sym (relation-of-words a 0) ∙ q);
-        never-takes = λ b q. e.never-takes b (sym (relation-of-words 0 b) ∙ q);
-        equal-after = λ b q. e.equal-after b (sym (relation-of-words 0 b) ∙ q);
-        equal-before = λ a q. e.equal-before a (sym (relation-of-words a 0) ∙ q);
+        nothing_yields = λ a q. e.nothing_yields a (sym (relation-of-words a 0) ∙ q);
+        never_takes = λ b q. e.never_takes b (sym (relation-of-words 0 b) ∙ q);
+        equal_after = λ b q. e.equal_after b (sym (relation-of-words 0 b) ∙ q);
+        equal_before = λ a q. e.equal_before a (sym (relation-of-words a 0) ∙ q);
       }
 
   -- *laws from the words*: all that sound and complete assume
   pub laws-of-words : Laws g table
   unfolding grammar_of
   laws-of-words = record {
-    equal_of = λ {a} {b} e. relation-of-words a b ∙ (relation-exactly range accepted.free a b).is-equal.1 e;
-    yields-of = λ {a} {b} e. relation-of-words a b ∙ (relation-exactly range accepted.free a b).is-yields.1 e;
-    takes_of = λ {a} {b} e. relation-of-words a b ∙ (relation-exactly range accepted.free a b).is-takes.1 e;
-    matching-of = λ s. matching-of (no-twins accepted.passed.twins) s;
+    equal_of = λ {a} {b} e. relation-of-words a b ∙ (relation-exactly range accepted.free a b).is_equal.1 e;
+    yields_of = λ {a} {b} e. relation-of-words a b ∙ (relation-exactly range accepted.free a b).is_yields.1 e;
+    takes_of = λ {a} {b} e. relation-of-words a b ∙ (relation-exactly range accepted.free a b).is_takes.1 e;
+    matching_of = λ s. matching_of (no-twins accepted.passed.twins) s;
     spelled_by = λ {r} {w} q. spelled_by w q;
-    left-of = λ s. refl;
+    left_of = λ s. refl;
     apart = λ s h. never-adjacent accepted.passed.forms s h;
-    has-terminal = λ {r} {w} s. have-terminals accepted.passed.forms r w s;
-    not_end = λ s h. let p = range.terminal-positive s h in omega arith;
-    axiom-of = λ {k} h. lt-ltb k (count_a words) h;
-    of-axiom = λ {k} q. ltb-true k (count_a words) q;
+    has_terminal = λ {r} {w} s. have-terminals accepted.passed.forms r w s;
+    not_end = λ s h. let p = range.terminal_positive s h in omega arith;
+    axiom_of = λ {k} h. lt-ltb k (count_a words) h;
+    of_axiom = λ {k} q. ltb-true k (count_a words) q;
   }
 
 -- ---- .. and nothing beyond it

@@ -18,7 +18,7 @@ use Rattle.language.specs.SetMasks.{InRange}
 use Rattle.language.specs.Words.{count_t, grammar_of}
 use Rattle.language.specs.Matrix.{matrix_of}
 use Rattle.language.proofs.Matrix.{matrix-length, matrix-small, matrix-unused, matrix-end, matrix-end-left, matrix-end-right}
-use Rattle.language.proofs.WordsInRange.{in-range}
+use Rattle.language.proofs.WordsInRange.{in_range}
 use Rattle.language.specs.Loads.{Accepted}
 use Rattle.machine.specs.Laws.{EndMark}
 use Rattle.machine.specs.TableOf.{relation_from, relation_at, table_of}
@@ -37,30 +37,30 @@ each-bytes test k h = each_all test (up_to k) (λ v m. h v (up_to-below k v m))
 
 -- a over #: blank or takes, or # over # equal
 data ToEnd (a x : ℕ) : Type 0 where
-  to-nothing : x ≡ 0 → ToEnd a x
-  to-taken : x ≡ 3 → ToEnd a x
-  to-equal : a ≡ 0 → x ≡ 2 → ToEnd a x
+  to_nothing : x ≡ 0 → ToEnd a x
+  to_taken : x ≡ 3 → ToEnd a x
+  to_equal : a ≡ 0 → x ≡ 2 → ToEnd a x
 
 -- # over b: blank or yields, or # over # equal
 data FromEnd (b x : ℕ) : Type 0 where
   from_nothing : x ≡ 0 → FromEnd b x
-  from-yields : x ≡ 1 → FromEnd b x
-  from-equal : b ≡ 0 → x ≡ 2 → FromEnd b x
+  from_yields : x ≡ 1 → FromEnd b x
+  from_equal : b ≡ 0 → x ≡ 2 → FromEnd b x
 
 to_end : (t a x : ℕ) → byte_fits t a 0 x ≡ true → ToEnd a x
 to_end t a x e = go (ltb t a) (ltb t 0) (eqb a 0) (eqb x 0) refl refl e
   where
     go : (p q r z : Bool) → eqb a 0 ≡ r → eqb x 0 ≡ z
         → pick p z (pick q z (pick r (eqb x 2) (pick z true (eqb x 3)))) ≡ true → ToEnd a x
-    go true q r z ha hx h = to-nothing (eqb-true x 0 (hx ∙ h))
-    go false true r z ha hx h = to-nothing (eqb-true x 0 (hx ∙ h))
-    go false false true z ha hx h = to-equal (eqb-true a 0 ha) (eqb-true x 2 h)
-    go false false false true ha hx h = to-nothing (eqb-true x 0 hx)
-    go false false false false ha hx h = to-taken (eqb-true x 3 h)
+    go true q r z ha hx h = to_nothing (eqb-true x 0 (hx ∙ h))
+    go false true r z ha hx h = to_nothing (eqb-true x 0 (hx ∙ h))
+    go false false true z ha hx h = to_equal (eqb-true a 0 ha) (eqb-true x 2 h)
+    go false false false true ha hx h = to_nothing (eqb-true x 0 hx)
+    go false false false false ha hx h = to_taken (eqb-true x 3 h)
 
 small : (b x : ℕ) → x ≤ 1 → FromEnd b x
 small b zero h = from_nothing refl
-small b (suc zero) h = from-yields refl
+small b (suc zero) h = from_yields refl
 small b (suc (suc x)) h = absurd (omega arith)
 
 from_end : (t b x : ℕ) → byte_fits t 0 b x ≡ true → FromEnd b x
@@ -69,28 +69,28 @@ from_end t b x e = go (ltb t 0) (ltb t b) (eqb b 0) refl e
     go : (p q r : Bool) → eqb b 0 ≡ r → pick p (eqb x 0) (pick q (eqb x 0) (pick r (eqb x 2) (leb x 1))) ≡ true → FromEnd b x
     go true q r hb h = from_nothing (eqb-true x 0 h)
     go false true r hb h = from_nothing (eqb-true x 0 h)
-    go false false true hb h = from-equal (eqb-true b 0 hb) (eqb-true x 2 h)
+    go false false true hb h = from_equal (eqb-true b 0 hb) (eqb-true x 2 h)
     go false false false hb h = small b x (leb-true x 1 h)
 
 to-yields : {a x : ℕ} → ToEnd a x → relation_from x ≡ yields → ⊥
-to-yields (to-nothing e) q = let z : ◌≡◌ {A = ℕ} 0 1 = cc (ap relation_from e) in omega arith
-to-yields (to-taken e) q = let z : ◌≡◌ {A = ℕ} 0 1 = cc (ap relation_from e) in omega arith
-to-yields (to-equal i e) q = let z : ◌≡◌ {A = ℕ} 0 1 = cc (ap relation_from e) in omega arith
+to-yields (to_nothing e) q = let z : ◌≡◌ {A = ℕ} 0 1 = cc (ap relation_from e) in omega arith
+to-yields (to_taken e) q = let z : ◌≡◌ {A = ℕ} 0 1 = cc (ap relation_from e) in omega arith
+to-yields (to_equal i e) q = let z : ◌≡◌ {A = ℕ} 0 1 = cc (ap relation_from e) in omega arith
 
 to-equals : {a x : ℕ} → ToEnd a x → relation_from x ≡ equal → a ≡ 0
-to-equals (to-nothing e) q = let z : ◌≡◌ {A = ℕ} 0 1 = cc (ap relation_from e) in absurd (omega arith)
-to-equals (to-taken e) q = let z : ◌≡◌ {A = ℕ} 0 1 = cc (ap relation_from e) in absurd (omega arith)
-to-equals (to-equal i e) q = i
+to-equals (to_nothing e) q = let z : ◌≡◌ {A = ℕ} 0 1 = cc (ap relation_from e) in absurd (omega arith)
+to-equals (to_taken e) q = let z : ◌≡◌ {A = ℕ} 0 1 = cc (ap relation_from e) in absurd (omega arith)
+to-equals (to_equal i e) q = i
 
 from-takes : {b x : ℕ} → FromEnd b x → relation_from x ≡ takes → ⊥
 from-takes (from_nothing e) q = let z : ◌≡◌ {A = ℕ} 0 1 = cc (ap relation_from e) in omega arith
-from-takes (from-yields e) q = let z : ◌≡◌ {A = ℕ} 0 1 = cc (ap relation_from e) in omega arith
-from-takes (from-equal i e) q = let z : ◌≡◌ {A = ℕ} 0 1 = cc (ap relation_from e) in omega arith
+from-takes (from_yields e) q = let z : ◌≡◌ {A = ℕ} 0 1 = cc (ap relation_from e) in omega arith
+from-takes (from_equal i e) q = let z : ◌≡◌ {A = ℕ} 0 1 = cc (ap relation_from e) in omega arith
 
 from-equals : {b x : ℕ} → FromEnd b x → relation_from x ≡ equal → b ≡ 0
 from-equals (from_nothing e) q = let z : ◌≡◌ {A = ℕ} 0 1 = cc (ap relation_from e) in absurd (omega arith)
-from-equals (from-yields e) q = let z : ◌≡◌ {A = ℕ} 0 1 = cc (ap relation_from e) in absurd (omega arith)
-from-equals (from-equal i e) q = i
+from-equals (from_yields e) q = let z : ◌≡◌ {A = ℕ} 0 1 = cc (ap relation_from e) in absurd (omega arith)
+from-equals (from_equal i e) q = i
 
 -- ---- any bytes that keep (b)
 
@@ -115,7 +115,7 @@ module _ (t : ℕ) (bytes : List ℕ) (fits : rule_b t bytes ≡ true) where
     where
       go : Dec (a < 64) → Says (ToEnd a) (relation_at bytes a 0)
       go (yes h) = record { byte = get_or bytes (64 * a + 0) 0; is = rw (lt-ltb a 64 h, relation_at); allowed = to_end t a _ (byte-at a 0 h (omega arith)) }
-      go (no h) = record { byte = 0; is = rw (le-ltb a 64 (omega arith), relation_at); allowed = to-nothing refl }
+      go (no h) = record { byte = 0; is = rw (le-ltb a 64 (omega arith), relation_at); allowed = to_nothing refl }
 
   says-from-end : (b : ℕ) → Says (FromEnd b) (relation_at bytes 0 b)
   says-from-end b = go (dec_lt b 64)
@@ -127,10 +127,10 @@ module _ (t : ℕ) (bytes : List ℕ) (fits : rule_b t bytes ≡ true) where
   -- # takes over nothing, nothing yields to it, and it is equal to itself alone
   pub end-mark-of-shape : (words : List ℕ) → EndMark (table_of words bytes)
   end-mark-of-shape words = record {
-    nothing-yields = λ a q. let s = says-to-end a in to-yields s.allowed (sym s.is ∙ q);
-    never-takes = λ b q. let s = says-from-end b in from-takes s.allowed (sym s.is ∙ q);
-    equal-after = λ b q. let s = says-from-end b in from-equals s.allowed (sym s.is ∙ q);
-    equal-before = λ a q. let s = says-to-end a in to-equals s.allowed (sym s.is ∙ q);
+    nothing_yields = λ a q. let s = says-to-end a in to-yields s.allowed (sym s.is ∙ q);
+    never_takes = λ b q. let s = says-from-end b in from-takes s.allowed (sym s.is ∙ q);
+    equal_after = λ b q. let s = says-from-end b in from-equals s.allowed (sym s.is ∙ q);
+    equal_before = λ a q. let s = says-to-end a in to-equals s.allowed (sym s.is ∙ q);
   }
 
 -- the rules of grammar and matrix are (a) and (b)
@@ -172,7 +172,7 @@ module _ (words : List ℕ) (accepted : Accepted words) (rest : List ℕ) where
   g = grammar_of words
 
   range : InRange g
-  range = in-range words accepted.passed.head accepted.passed.symbols
+  range = in_range words accepted.passed.head accepted.passed.symbols
 
   abbrev bytes : List ℕ
   bytes = matrix_of g ++ rest

@@ -14,16 +14,16 @@ use Rattle.refusals.specs.declared.Answer.TheVariants.{Done, Refused}
 use Rattle.language.specs.Symbols.{Symbol}
 use Rattle.language.specs.Grammar.{left_side}
 use Rattle.language.specs.Words.{count_t, count_n, grammar_of}
-use Rattle.language.specs.Stages.{Ready, ready, finding, Given, passes-all, passes}
+use Rattle.language.specs.Stages.{Ready, ready, finding, Given, passes_all, passes}
 use Rattle.language.proofs.Stages.{given-exactly}
-use Rattle.language.specs.CheckHead.{BadHead, head-absent}
+use Rattle.language.specs.CheckHead.{BadHead, head_absent}
 use Rattle.language.proofs.CheckHead.{head-finds}
 use Rattle.language.specs.CheckContents.{BadContents}
 use Rattle.language.proofs.CheckContents.{contents-finds}
 use Rattle.language.specs.CheckSymbols.{BadSymbol}
 use Rattle.language.proofs.CheckSymbols.{symbols-find}
 use Rattle.language.specs.Checks.{symbol_conditions, check_symbols}
-use Rattle.language.proofs.WordsInRange.{in-range, few-terminals, few-nonterminals}
+use Rattle.language.proofs.WordsInRange.{in_range, few-terminals, few-nonterminals}
 use Rattle.language.specs.Matching.{matching}
 use Rattle.language.proofs.Matching.{spelled_by}
 use Rattle.matrix.specs.GrammarShape.{is_done, rule_a}
@@ -47,10 +47,10 @@ module _ (words : List ℕ) where
   by = given-exactly words three-ready Done
 
   pub rule-a-exactly : (rule_a words ≡ true) ↔ PassThree words
-  rule-a-exactly = (λ e. out (by.0 (done-is (check_symbols words) e)), λ p. back (by.1 (passes p.head (passes p.contents (passes p.symbols passes-all)))))
+  rule-a-exactly = (λ e. out (by.0 (done-is (check_symbols words) e)), λ p. back (by.1 (passes p.head (passes p.contents (passes p.symbols passes_all)))))
     where
       out : Given words symbol_conditions Done → PassThree words
-      out (passes n (passes m (passes k passes-all))) = record { head = n; contents = m; symbols = k }
+      out (passes n (passes m (passes k passes_all))) = record { head = n; contents = m; symbols = k }
 
       back : check_symbols words ≡ Done → rule_a words ≡ true
       back e = rw e
@@ -59,7 +59,7 @@ module _ (words : List ℕ) where
   pub headed : rule_a words ≡ true → (4 ≤ length words) × (count_t words ≤ 63) × (count_n words ≤ 64)
   headed e =
       let passed = (rule-a-exactly.0 e).head in
-      let present : length words ≤ 3 → ⊥ = λ h. passed 3 (head-absent (lit< tt) h) in
+      let present : length words ≤ 3 → ⊥ = λ h. passed 3 (head_absent (lit< tt) h) in
       (omega arith, (few-terminals words passed).1, (few-nonterminals words passed).1)
 
   pub terminals-fit : rule_a words ≡ true → (1 ≤ count_t words) × (count_t words ≤ 63)
@@ -68,4 +68,4 @@ module _ (words : List ℕ) where
   -- the left side of a rule that matching finds
   pub left-sides-fit : rule_a words ≡ true → (w : List Symbol) {r : ℕ} → matching (grammar_of words) w ≡ some r → left_side (grammar_of words) r < count_n words
   unfolding grammar_of
-  left-sides-fit e w q = let p = rule-a-exactly.0 e in (in-range words p.head p.symbols).left_below (spelled_by w q)
+  left-sides-fit e w q = let p = rule-a-exactly.0 e in (in_range words p.head p.symbols).left_below (spelled_by w q)

@@ -25,9 +25,9 @@ use Rattle.shape.specs.Encoded.{chunks-at}
 use Rattle.layout.specs.RowCounts.{no_symbol}
 use Rattle.shape.specs.Tiling.{end-is-last}
 use Rattle.moving.specs.MoveWords.{end_of, ended_words, accept_words, Acceptable}
-use Rattle.moving.specs.KeptAround.{symbols-around, nothing-live}
+use Rattle.moving.specs.KeptAround.{symbols-around, nothing_live}
 use Rattle.moving.specs.AroundChunk.{slots-count, finer_parts, around-finer, tick-law, gone-rows, gone-slots, gone-total, listed-words}
-use Rattle.moving.specs.AroundChunk.{read-words, head-word, end-word, number-within, few-moves, slots-within, ends-within}
+use Rattle.moving.specs.AroundChunk.{read-words, head-word, end-word, number-within, few-moves, slots-within, ends_within}
 
 module _ (n : ℕ) (earlier : List (Option (Chunk Span))) (stack : List (Entry Span)) (v : Span) (status : Status) (later : List (Option (Chunk Span)))
     (gone : AllGone later) (reductions : List (Reduction Span)) (moves : ℕ) (rest : List ℕ) (fits : total earlier + (stack_size stack + 1) ≤ n + 2) where
@@ -72,7 +72,7 @@ module _ (n : ℕ) (earlier : List (Option (Chunk Span))) (stack : List (Entry S
 
   module _ (c : ℕ) (number : length earlier ≡ c) where
     abbrev here : Live (state reader moves).chunks c
-    here = record { before = earlier; chunk = reader; after = later; number_is = number; chunks-are = refl }
+    here = record { before = earlier; chunk = reader; after = later; number_is = number; chunks_are = refl }
 
     -- the word where the last slot starts
     abbrev at : ℕ
@@ -122,7 +122,7 @@ pub accept-ready : {t N n : ℕ} {s : State Span} (k : Kept t N n s) (rest : Lis
     → l.chunk.unread ≡ x ∷ unread → Acceptable (encode n s ++ rest) c
 accept-ready {n = n} {s = s} k rest {c} l x unread next =
     let end : end_of (encode n s ++ rest) c ≡ total l.before + (stack_size l.chunk.stack + (size x + unread_size unread)) = rw next at (end-word n s rest l) in
-    let inside : total l.before + (stack_size l.chunk.stack + (size x + unread_size unread)) ≤ n + 2 = rw next at (ends-within k rest l) in
+    let inside : total l.before + (stack_size l.chunk.stack + (size x + unread_size unread)) ≤ n + 2 = rw next at (ends_within k rest l) in
     record {
       few = few-moves k rest;
       chunk = rw (chunks-at n s rest) (number-within n s rest l);
@@ -134,14 +134,14 @@ accept-ready {n = n} {s = s} k rest {c} l x unread next =
 -- what the accepting move tells of a row that keeps the rules: the # read is its last symbol, and no later chunk is live
 pub record IsLast (unread : List (Unread Span)) (later : List (Option (Chunk Span))) : Type 0 where
   pub no_more : unread ≡ []
-  pub all-gone : AllGone later
+  pub all_gone : AllGone later
 
 pub accepting-last : {t N n : ℕ} {s : State Span} (k : Kept t N n s) {c : ℕ} (l : Live s.chunks c) (j : ℕ) (mark : Bool) (u w v : Span) (unread : List (Unread Span))
     → l.chunk.stack ≡ nonterminal_on j u ∷ terminal_on mark 0 w ∷ [] → l.chunk.unread ≡ terminal_at 0 v ∷ unread → IsLast unread l.after
-accepting-last {n = n} k l j mark u w v unread stack_is unread-is =
+accepting-last {n = n} k l j mark u w v unread stack_is unread_is =
     let others : List (Unread Span) = symbols_along (live l.after) in
     let around : Tiles n 0 (symbols_along (live l.before) ++ (terminal_at 0 w ∷ nonterminal_at j u ∷ terminal_at 0 v ∷ (unread ++ others))) k.end =
-    rw (stack_is, unread-is) at (rw (symbols-around k l) at k.tiles) in
+    rw (stack_is, unread_is) at (rw (symbols-around k l) at k.tiles) in
     let e = end-is-last (symbols_along (live l.before)) (unread ++ others) (terminal_at 0 w) (nonterminal_at j u) (terminal_at 0 v) refl refl around in
-    let none_left : length unread + length others ≡ 0 = sym (length-append unread others) ∙ ap length e.no-after in
-    record { no_more = no_symbol unread (omega arith); all-gone = nothing-live k l (no_symbol others (omega arith)) }
+    let none_left : length unread + length others ≡ 0 = sym (length-append unread others) ∙ ap length e.no_after in
+    record { no_more = no_symbol unread (omega arith); all_gone = nothing_live k l (no_symbol others (omega arith)) }

@@ -4,8 +4,8 @@
 -- Rests on MoveWords and BlockWords, on layout's Layout, Kept and Lengths and shape's Encoded, on machine's Allowed, and on laws' Parts.
 --
 -- Main definitions: parts_around, finer_parts.
--- Main statements: around, around-finer, tick-law; status-word, from-word, head-word, end-word, marks-word, stack-stands, next-symbol,
--- next-unmarked, next-size, next_last; gone-word, status-some; few-moves, slots-within, made-within, ends-within.
+-- Main statements: around, around-finer, tick-law; status-word, from-word, head-word, end-word, marks-word, stack_stands, next-symbol,
+-- next-unmarked, next-size, next_last; gone-word, status-some; few-moves, slots-within, made-within, ends_within.
 use Rattle.std.specs.Prelude.{◌≡◌, refl, ℕ, suc, ◌+◌, ◌*◌, ◌-◌, ◌/◌, ◌%◌, ◌<◌, ◌≤◌, length, get_or, take, drop}
 use Rattle.std.proofs.Math.Path.{ap}
 use Rattle.std.proofs.Common.{◌∙◌, zero-add, mul-le-mul_left, arith, length-take-le}
@@ -20,7 +20,7 @@ use Rattle.machine.specs.Entries.{Unread, symbol}
 use Rattle.machine.specs.Moves.{no_relation, no_rule, not_axiom, side_by_side}
 use Rattle.machine.specs.Chunks.{Status, running, stuck, Chunk}
 use Rattle.machine.specs.States.{State, made_at}
-use Rattle.machine.specs.Allowed.{AllGone, no_number, one-gone, Live}
+use Rattle.machine.specs.Allowed.{AllGone, no_number, one_gone, Live}
 use Rattle.machine.proofs.AllowedExactly.{live-set}
 use Rattle.layout.specs.Layout.{need, size, block, stack_size, stack_words, marks, unread_size, unread_words, chunk_size, chunk_words, status_word, row}
 use Rattle.layout.specs.Layout.{total, rows, slots, front, tail_words, encode, table_at, row_word, slot_word, made_at_word}
@@ -96,15 +96,15 @@ around-finer n earlier chunk later reductions moves rest r k w x u tail p q e h 
 -- numbers that are gone: no slots, and rows of zeros
 pub gone-rows : {chunks : List (Option (Chunk Span))} → AllGone chunks → (from other : ℕ) → rows from chunks ≡ rows other chunks
 gone-rows no_number from other = refl
-gone-rows (one-gone g) from other = rw (gone-rows g (from + 0) (other + 0))
+gone-rows (one_gone g) from other = rw (gone-rows g (from + 0) (other + 0))
 
 pub gone-slots : {chunks : List (Option (Chunk Span))} → AllGone chunks → slots chunks ≡ []
 gone-slots no_number = refl
-gone-slots (one-gone g) = gone-slots g
+gone-slots (one_gone g) = gone-slots g
 
 pub gone-total : {chunks : List (Option (Chunk Span))} → AllGone chunks → total chunks ≡ 0
 gone-total no_number = refl
-gone-total (one-gone g) = omega (arith, gone-total g)
+gone-total (one_gone g) = omega (arith, gone-total g)
 
 -- word k of the row of the table for number c, live or gone
 row-around : (n : ℕ) (earlier : List (Option (Chunk Span))) (chunk : Option (Chunk Span)) (later : List (Option (Chunk Span))) (reductions : List (Reduction Span))
@@ -122,7 +122,7 @@ module _ (n : ℕ) (s : State Span) (rest : List ℕ) {c : ℕ} (l : Live s.chun
       → encode n s ++ rest ≡ encode n (record { chunks = l.before ++ (some chunk ∷ l.after); reductions = s.reductions; moves = s.moves }) ++ rest
   listed-words e =
       ap (λ (chunks : List (Option (Chunk Span))). encode n (record { chunks = chunks; reductions = s.reductions; moves = s.moves }) ++ rest)
-      (l.chunks-are ∙ ap (λ (chunk : Chunk Span). l.before ++ (some chunk ∷ l.after)) e)
+      (l.chunks_are ∙ ap (λ (chunk : Chunk Span). l.before ++ (some chunk ∷ l.after)) e)
 
   -- the state after a move: another chunk there
   pub made-words : (made : List (Reduction Span)) (chunk : Chunk Span)
@@ -165,13 +165,13 @@ module _ (n : ℕ) (s : State Span) (rest : List ℕ) {c : ℕ} (l : Live s.chun
   marks-word = row-word 4 (omega arith)
 
   pub chunks-count : length s.chunks ≡ length l.before + suc (length l.after)
-  chunks-count = ap length l.chunks-are ∙ length-append l.before (some l.chunk ∷ l.after)
+  chunks-count = ap length l.chunks_are ∙ length-append l.before (some l.chunk ∷ l.after)
 
   pub number-within : c < length s.chunks
   number-within = omega (arith, chunks-count, l.number_is)
 
   pub slots-count : total s.chunks ≡ total l.before + (chunk_size (some l.chunk) + total l.after)
-  slots-count = ap total l.chunks-are ∙ total-append l.before (some l.chunk ∷ l.after)
+  slots-count = ap total l.chunks_are ∙ total-append l.before (some l.chunk ∷ l.after)
 
   -- what stands before the chunk's slots, and after them
   earlier_words : List ℕ
@@ -194,9 +194,9 @@ module _ (n : ℕ) (s : State Span) (rest : List ℕ) {c : ℕ} (l : Live s.chun
       (simp (length-append, length-rows, length-slots) (omega (arith, chunks-count)))
 
   -- the stack's words, from `from` up to `head`
-  pub stack-stands : Stands (encode n s ++ rest) (slot_at (encode n s ++ rest) (from_of (encode n s ++ rest) c))
+  pub stack_stands : Stands (encode n s ++ rest) (slot_at (encode n s ++ rest) (from_of (encode n s ++ rest) c))
       (slot_at (encode n s ++ rest) (head_of (encode n s ++ rest) c)) l.chunk.stack
-  stack-stands = record {
+  stack_stands = record {
     below = earlier_words;
     above = unread_words l.chunk.unread ++ later_words;
     is = in-slots;
@@ -274,8 +274,8 @@ module _ {t N n : ℕ} {s : State Span} (k : Kept t N n s) (rest : List ℕ) whe
   -- one move more can be counted
   pub few-moves : get_or (encode n s ++ rest) 3 0 < 65535
   few-moves =
-      let a : n * length s.chunks ≤ n * 64 = mul-le-mul_left n k.few-chunks in
-      rw (high_word n s rest) (omega (arith, k.bounded, k.few-tokens, k.few-chunks))
+      let a : n * length s.chunks ≤ n * 64 = mul-le-mul_left n k.few_chunks in
+      rw (high_word n s rest) (omega (arith, k.bounded, k.few_tokens, k.few_chunks))
 
-  pub ends-within : {c : ℕ} (l : Live s.chunks c) → total l.before + (stack_size l.chunk.stack + unread_size l.chunk.unread) ≤ n + 2
-  ends-within l = omega (arith, within-slots k, slots-count n s rest l)
+  pub ends_within : {c : ℕ} (l : Live s.chunks c) → total l.before + (stack_size l.chunk.stack + unread_size l.chunk.unread) ≤ n + 2
+  ends_within l = omega (arith, within-slots k, slots-count n s rest l)

@@ -2,7 +2,7 @@
 -- Document 01: "a move or run 15, 12, 13; a join 15, 12, 14"; "All return number and value and leave lent memory unchanged".
 -- Rests on Moved and OneMove, and on machine's GivenExactly.
 --
--- Main statements: live-true, live-false, rests-true, rests-false; table-there, the-live, none-live, at-rest-there, movable; there.
+-- Main statements: live-true, live-false, rests-true, rests-false; table-there, the_live, none-live, at-rest-there, movable; there.
 use Rattle.std.specs.Prelude.{◌≡◌, refl, Bool, true, false, List, ℕ, ◌<◌, ◌≤◌, eqb, leb, length, get_or, drop}
 use Rattle.std.proofs.Common.{sym, subst, arith}
 use Rattle.std.proofs.lemmas.Bool.{false≢true}
@@ -54,22 +54,22 @@ module _ {words bytes area : List ℕ} (h : Held words bytes area) where
   -- its table is there
   pub table-there : (2 ≤ length area) × (slots_at area ≤ length area)
   table-there =
-      let p : slots_at area ≤ length area = subst (λ a. slots_at a ≤ length a) (sym h.area-is) (omega (arith, slots-within h.kept h.rest)) in
+      let p : slots_at area ≤ length area = subst (λ a. slots_at a ≤ length a) (sym h.area_is) (omega (arith, slots-within h.kept h.rest)) in
       (omega arith, p)
 
 module _ {words bytes area : List ℕ} {c : ℕ} (h : Held words bytes area) where
-  abbrev pub the-live : live_in area c ≡ true → Live h.state.chunks c
-  the-live e = let p = live-true area c e in live-held h p.0 p.1
+  abbrev pub the_live : live_in area c ≡ true → Live h.state.chunks c
+  the_live e = let p = live-true area c e in live-held h p.0 p.1
 
   pub none-live : live_in area c ≡ false → Live h.state.chunks c → ⊥
   none-live e l = let p = held-live h l in live-false area c e p.0 p.1
 
   pub at-rest-there : live_in area c ≡ true → rests_in area c ≡ true → LiveAtRest c h.state
-  at-rest-there e r = let l = the-live e in record { live = l; rests = rests-from l.chunk (rests-held h l (rests-true area c r)) }
+  at-rest-there e r = let l = the_live e in record { live = l; rests = rests-from l.chunk (rests-held h l (rests-true area c r)) }
 
   -- a live chunk that is not at rest has a move
   abbrev pub movable : live_in area c ≡ true → rests_in area c ≡ false → Movable words bytes area c
-  movable e r = let p = rests-false area c r in record { held = h; live = the-live e; runs = runs-held h (the-live e) p.0 p.1 }
+  movable e r = let p = rests-false area c r in record { held = h; live = the_live e; runs = runs-held h (the_live e) p.0 p.1 }
 
 -- ---- the state that the area decodes to
 
@@ -79,7 +79,7 @@ module _ (words bytes area : List ℕ) (c : ℕ) (low : get_or area 2 0 < 65536)
     tokens = get_or area 0 0;
     state = decode area;
     rest = drop (need (get_or area 0 0) (get_or area 1 0)) area;
-    area-is = (in-shape-holds words bytes area low shape).is;
+    area_is = (in-shape-holds words bytes area low shape).is;
     grammar = (in-shape-parts words bytes area shape).0;
     kept = (in-shape-holds words bytes area low shape).kept;
   }

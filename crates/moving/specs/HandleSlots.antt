@@ -13,20 +13,20 @@ use Rattle.std.proofs.Math.Option.{Option, none}
 use Rattle.language.specs.Symbols.{terminal}
 use Rattle.language.specs.Trees.{Span}
 use Rattle.machine.specs.Entries.{Unread, terminal_at, nonterminal_at, Entry, terminal_on, nonterminal_on, symbol, value_of, stack_symbols, Handle, handle_of}
-use Rattle.results.specs.RunsEnd.{terminals_on, MarksFine, fine-nonterminal, fine-unmarked, fine-marked}
+use Rattle.results.specs.RunsEnd.{terminals_on, MarksFine, fine_nonterminal, fine_unmarked, fine_marked}
 use Rattle.machine.specs.Spans.{span_of}
 use Rattle.machine.specs.States.{State, live}
 use Rattle.machine.specs.Starts.{symbols_along}
-use Rattle.machine.specs.Allowed.{HandleAbove, from-nonterminal, from-mark, up-to-unmarked, up-to-nonterminal, Live}
-use Rattle.machine.specs.AllowedExactly.{HandleView, no-handle, a-handle}
+use Rattle.machine.specs.Allowed.{HandleAbove, from_nonterminal, from_mark, up_to_unmarked, up_to_nonterminal, Live}
+use Rattle.machine.specs.AllowedExactly.{HandleView, no_handle, a_handle}
 use Rattle.machine.proofs.AllowedExactly.{handle-symbols, handle-view}
 use Rattle.layout.specs.Layout.{size, stack_size, stack_words, marks, total}
 use Rattle.layout.specs.Lengths.{length-stack, stack-size, tiles-end}
-use Rattle.layout.specs.Kept.{Lies, first-end, last_end, within, Tiles, tile, Kept}
+use Rattle.layout.specs.Kept.{Lies, first_end, last_end, within, Tiles, tile, Kept}
 use Rattle.shape.specs.Tiling.{tiles-split, tiles-join, tiles-replaced}
 use Rattle.shape.specs.RowAfterTurn.{handle-first}
 use Rattle.moving.specs.MoveWords.{Stands}
-use Rattle.moving.specs.Readings.{no-marks}
+use Rattle.moving.specs.Readings.{no_marks}
 use Rattle.moving.specs.KeptAround.{stack-tiles, unread-tiles, marks-fine, stack-terminals}
 
 -- ---- a handle on what is below it
@@ -57,24 +57,24 @@ upper-stands handle below from e s = record {
 -- ---- handles
 
 pub handle-splits : {stack handle below : List (Entry Span)} → HandleAbove stack handle below → stack ≡ handle ++ below
-handle-splits from-nonterminal = refl
-handle-splits (from-mark h) = refl
-handle-splits (up-to-unmarked {a = a} {v = v} h) = ap (λ (stack : List (Entry Span)). terminal_on false a v ∷ stack) (handle-splits h)
-handle-splits (up-to-nonterminal {k = k} {v = v} h) = ap (λ (stack : List (Entry Span)). nonterminal_on k v ∷ stack) (handle-splits h)
+handle-splits from_nonterminal = refl
+handle-splits (from_mark h) = refl
+handle-splits (up_to_unmarked {a = a} {v = v} h) = ap (λ (stack : List (Entry Span)). terminal_on false a v ∷ stack) (handle-splits h)
+handle-splits (up_to_nonterminal {k = k} {v = v} h) = ap (λ (stack : List (Entry Span)). nonterminal_on k v ∷ stack) (handle-splits h)
 
 -- it has one mark
 pub handle-marks : {stack handle below : List (Entry Span)} → HandleAbove stack handle below → marks handle ≡ 1
-handle-marks from-nonterminal = refl
-handle-marks (from-mark h) = refl
-handle-marks (up-to-unmarked h) = omega (arith, handle-marks h)
-handle-marks (up-to-nonterminal h) = omega (arith, handle-marks h)
+handle-marks from_nonterminal = refl
+handle-marks (from_mark h) = refl
+handle-marks (up_to_unmarked h) = omega (arith, handle-marks h)
+handle-marks (up_to_nonterminal h) = omega (arith, handle-marks h)
 
 -- and on it stands another terminal than #, where no mark stands on a #
 handle-terminals : {stack handle below : List (Entry Span)} → HandleAbove stack handle below → MarksFine stack → 0 < terminals_on stack
-handle-terminals from-nonterminal (fine-marked i o) = rw i (omega arith)
-handle-terminals (from-mark h) (fine-marked i o) = rw i (omega arith)
-handle-terminals (up-to-unmarked h) (fine-unmarked o) = omega (arith, handle-terminals h o)
-handle-terminals (up-to-nonterminal h) (fine-nonterminal o) = handle-terminals h o
+handle-terminals from_nonterminal (fine_marked i o) = rw i (omega arith)
+handle-terminals (from_mark h) (fine_marked i o) = rw i (omega arith)
+handle-terminals (up_to_unmarked h) (fine_unmarked o) = omega (arith, handle-terminals h o)
+handle-terminals (up_to_nonterminal h) (fine_nonterminal o) = handle-terminals h o
 
 -- a stack with no mark has no handle, and one with a mark has one
 pub marks-none : (stack : List (Entry Span)) (above : List (Unread Span)) → marks stack ≡ 0 → handle_of stack above ≡ none
@@ -92,8 +92,8 @@ pub marks-some : (stack : List (Entry Span)) → 0 < marks stack → SomeHandle 
 marks-some stack h = go (handle-view stack [])
   where
     go : {found : Option (Handle Span)} → HandleView stack [] found → SomeHandle stack
-    go (no-handle n) = absurd (omega (arith, no-marks n))
-    go (a-handle {handle = handle} {found = found} a e) = record { handle = handle; below = found.below; above = a }
+    go (no_handle n) = absurd (omega (arith, no_marks n))
+    go (a_handle {handle = handle} {found = found} a e) = record { handle = handle; below = found.below; above = a }
 
 -- the span of the slots from `from` up to `head`
 pub record Covers (from head left : ℕ) (v : Span) : Type 0 where
@@ -103,7 +103,7 @@ pub record Covers (from head left : ℕ) (v : Span) : Type 0 where
   pub after : v.after ≡ head - 1
 
 lies_so : {n s left : ℕ} {v : Span} → Lies n s (nonterminal_at left v) → Covers s (s + size (nonterminal_at left v)) left v
-lies_so (first-end q e is) = let z : ◌≡◌ {A = ℕ} 0 1 = cc in absurd (omega arith)
+lies_so (first_end q e is) = let z : ◌≡◌ {A = ℕ} 0 1 = cc in absurd (omega arith)
 lies_so (last_end q e is) = let z : ◌≡◌ {A = ℕ} 0 1 = cc in absurd (omega arith)
 lies_so (within p h e is) = record {
   low = p;

@@ -15,19 +15,19 @@ use Rattle.language.specs.Trees.{Span}
 use Rattle.machine.specs.States.{Called, join}
 use Rattle.machine.specs.Allowed.{AllGone, Live, NextLive, IsAtRest}
 use Rattle.machine.proofs.AllowedExactly.{rests-to}
-use Rattle.machine.specs.GivenExactly.{CannotJoin, no-live-right, left-not-at-rest, right-not-at-rest}
+use Rattle.machine.specs.GivenExactly.{CannotJoin, no_live_right, left_not_at_rest, right_not_at_rest}
 use Rattle.machine.proofs.GivenExactly.{join-no-chunk, no-join-exactly}
 use Rattle.layout.specs.Layout.{decode}
 use Rattle.area.specs.Shape.{in_shape}
 use Rattle.moving.specs.declared.Next.TheVariants as next
 use Rattle.moving.specs.MoveWords.{join_words, Joinable}
 use Rattle.moving.specs.ReadWords.{next_of, live_after}
-use Rattle.moving.specs.LiveWords.{NextIs, next-is, no-next}
-use Rattle.moving.specs.JoinLaw.{next_number, next-chunk}
+use Rattle.moving.specs.LiveWords.{NextIs, next_is, no_next}
+use Rattle.moving.specs.JoinLaw.{next_number, next_chunk}
 use Rattle.moving.specs.MoveLaw.{runs_on}
-use Rattle.moving.specs.OneMove.{Held, held-live, runs-held, rests-held, next-held, Joining, can-join, joins-so, joined_words}
+use Rattle.moving.specs.OneMove.{Held, held-live, runs-held, rests-held, next-held, Joining, can-join, joins_so, joined_words}
 use Rattle.moving.specs.Moved.{live_in, rests_in}
-use Rattle.moving.specs.CallLaws.{rests-true, rests-false, the-live, none-live, there}
+use Rattle.moving.specs.CallLaws.{rests-true, rests-false, the_live, none-live, there}
 use Rattle.moving.specs.Calls.{called_answer, called_area, join_call, join_answer, join_area}
 use Rattle.moving.specs.OnWords.{join-broken, join-in-shape}
 
@@ -40,47 +40,47 @@ next-none none e = refl
 next-none (some q) e = let z : ◌≡◌ {A = ℕ} 0 1 = cc in absurd (omega arith)
 
 module _ {words bytes area : List ℕ} (c : ℕ) (h : Held words bytes area) (e : live_in area c ≡ true) where
-  alone : next.NoChunk ≡ next_of (live_after area c) → AllGone (the-live h e).after
-  alone q = go (rw (next-none (live_after area c) q) at (next-held h (the-live h e)))
+  alone : next.NoChunk ≡ next_of (live_after area c) → AllGone (the_live h e).after
+  alone q = go (rw (next-none (live_after area c) q) at (next-held h (the_live h e)))
     where
-      go : NextIs (the-live h e).after (c + 1) none → AllGone (the-live h e).after
-      go (no-next g) = g
+      go : NextIs (the_live h e).after (c + 1) none → AllGone (the_live h e).after
+      go (no_next g) = g
 
   -- d is the next live chunk
   pub record Follows (d : ℕ) : Type 0 where
-    pub next-live : NextLive (the-live h e).after
-    pub number_is : d ≡ next_number h.state (the-live h e) next-live
+    pub next-live : NextLive (the_live h e).after
+    pub number_is : d ≡ next_number h.state (the_live h e) next-live
 
   pub follows : (d : ℕ) → next.Chunk d ≡ next_of (live_after area c) → Follows d
-  follows d q = go (rw (next-some d (live_after area c) q) at (next-held h (the-live h e)))
+  follows d q = go (rw (next-some d (live_after area c) q) at (next-held h (the_live h e)))
     where
-      go : NextIs (the-live h e).after (c + 1) (some d) → Follows d
-      go (next-is m p) = record { next-live = m; number_is = p }
+      go : NextIs (the_live h e).after (c + 1) (some d) → Follows d
+      go (next_is m p) = record { next-live = m; number_is = p }
 
   module _ {d : ℕ} (f : Follows d) where
-    abbrev right-live : Live h.state.chunks (next_number h.state (the-live h e) f.next-live)
-    right-live = next-chunk h.state (the-live h e) f.next-live
+    abbrev right_live : Live h.state.chunks (next_number h.state (the_live h e) f.next-live)
+    right_live = next_chunk h.state (the_live h e) f.next-live
 
     pub right-listed : d < get_or area 1 0
-    right-listed = rw f.number_is (held-live h right-live).0
+    right-listed = rw f.number_is (held-live h right_live).0
 
     abbrev pub joining : rests_in area c ≡ true → rests_in area d ≡ true → Joining words bytes area c d
     joining p q = record {
       held = h;
-      live = the-live h e;
+      live = the_live h e;
       next = f.next-live;
       number_is = f.number_is;
-      left-rests = rests-held h (the-live h e) (rests-true area c p);
-      right-rests = rests-held h right-live (rests-true area _ (rw f.number_is at q));
+      left_rests = rests-held h (the_live h e) (rests-true area c p);
+      right_rests = rests-held h right_live (rests-true area _ (rw f.number_is at q));
     }
 
-    right-moves : rests_in area d ≡ false → IsAtRest f.next-live.chunk → ⊥
-    right-moves q r =
-        let p = rests-false area (next_number h.state (the-live h e) f.next-live) (rw f.number_is at q) in
-        not-both _ (rests-to r) (runs_on (runs-held h right-live p.0 p.1))
+    right_moves : rests_in area d ≡ false → IsAtRest f.next-live.chunk → ⊥
+    right_moves q r =
+        let p = rests-false area (next_number h.state (the_live h e) f.next-live) (rw f.number_is at q) in
+        not-both _ (rests-to r) (runs_on (runs-held h right_live p.0 p.1))
 
-  left-moves : rests_in area c ≡ false → IsAtRest (the-live h e).chunk → ⊥
-  left-moves q r = let p = rests-false area c q in not-both _ (rests-to r) (runs_on (runs-held h (the-live h e) p.0 p.1))
+  left_moves : rests_in area c ≡ false → IsAtRest (the_live h e).chunk → ⊥
+  left_moves q r = let p = rests-false area c q in not-both _ (rests-to r) (runs_on (runs-held h (the_live h e) p.0 p.1))
 
 module _ (words bytes area : List ℕ) (c : ℕ) where
   by_call : {k : Called Span} → join_call words bytes area c ≡ k → (called_answer k ≡ join_answer words bytes area c) × (called_area k area ≡ join_area words bytes area c)
@@ -105,20 +105,20 @@ module _ (words bytes area : List ℕ) (c : ℕ) where
 
     module _ (e : live_in area c ≡ true) where
       pub join-alone : next.NoChunk ≡ next_of (live_after area c) → (Refused NoJoin ≡ join_answer words bytes area c) × (area ≡ join_area words bytes area c)
-      join-alone q = cannot (no-live-right (the-live lent e) (alone c lent e q))
+      join-alone q = cannot (no_live_right (the_live lent e) (alone c lent e q))
 
       join-left : rests_in area c ≡ false → (Refused NoJoin ≡ join_answer words bytes area c) × (area ≡ join_area words bytes area c)
-      join-left q = cannot (left-not-at-rest (the-live lent e) (left-moves c lent e q))
+      join-left q = cannot (left_not_at_rest (the_live lent e) (left_moves c lent e q))
 
       join-right : (d : ℕ) → next.Chunk d ≡ next_of (live_after area c) → rests_in area d ≡ false
           → (Refused NoJoin ≡ join_answer words bytes area c) × (area ≡ join_area words bytes area c)
-      join-right d n q = let f = follows c lent e d n in cannot (right-not-at-rest (the-live lent e) f.next-live (right-moves c lent e f q))
+      join-right d n q = let f = follows c lent e d n in cannot (right_not_at_rest (the_live lent e) f.next-live (right_moves c lent e f q))
 
       pub join-made : (d : ℕ) → next.Chunk d ≡ next_of (live_after area c) → rests_in area c ≡ true → rests_in area d ≡ true
           → (Done ≡ join_answer words bytes area c) × (join_words area c d ≡ join_area words bytes area c)
       join-made d n p q =
           let f = follows c lent e d n in
-          let z = by_call (by_state ∙ joins-so (joining c lent e f p q)) in
+          let z = by_call (by_state ∙ joins_so (joining c lent e f p q)) in
           (z.0, joined_words (joining c lent e f p q) ∙ z.1)
 
       -- "or either not at rest"

@@ -24,7 +24,7 @@ use Rattle.layout.specs.Lengths.{words_append}
 use Rattle.layout.specs.Kept.{Kept}
 use Rattle.shape.specs.Encoded.{chunks-at}
 use Rattle.moving.specs.MoveWords.{from_of, head_of, unmark_words, gone_words, one_words, join_words, Joinable}
-use Rattle.moving.specs.AroundChunk.{around, tick-law, gone-rows, gone-slots, gone-total, from-word, head-word, end-word, few-moves, slots-within, ends-within, number-within}
+use Rattle.moving.specs.AroundChunk.{around, tick-law, gone-rows, gone-slots, gone-total, from-word, head-word, end-word, few-moves, slots-within, ends_within, number-within}
 
 -- ---- a stack without its marks
 
@@ -207,7 +207,7 @@ module _ (n : ℕ) (earlier : List (Option (Chunk Span))) (left : Chunk Span) (b
       chunk = right;
       after = later;
       number_is = omega (arith, length-append earlier (some left ∷ between));
-      chunks-are = sym (append_assoc earlier (some left ∷ between) (some right ∷ later));
+      chunks_are = sym (append_assoc earlier (some left ∷ between) (some right ∷ later));
     }
 
     right-from : total there.before ≡ seam
@@ -267,16 +267,16 @@ module _ (s : State Span) {c : ℕ} (l : Live s.chunks c) (m : NextLive l.after)
   join-becomes p q = rw (live_to l, join, live-drop l, next-to m, p, join_with, q, live-take l)
 
   pub all-chunks : s.chunks ≡ l.before ++ (some l.chunk ∷ (m.between ++ (some m.chunk ∷ m.beyond)))
-  all-chunks = l.chunks-are ∙ ap (λ (later : List (Option (Chunk Span))). l.before ++ (some l.chunk ∷ later)) m.after_is
+  all-chunks = l.chunks_are ∙ ap (λ (later : List (Option (Chunk Span))). l.before ++ (some l.chunk ∷ later)) m.after_is
 
   -- the next live chunk as one of the state's chunks
-  abbrev pub next-chunk : Live s.chunks next_number
-  next-chunk = record {
+  abbrev pub next_chunk : Live s.chunks next_number
+  next_chunk = record {
     before = l.before ++ (some l.chunk ∷ m.between);
     chunk = m.chunk;
     after = m.beyond;
     number_is = omega (arith, length-append l.before (some l.chunk ∷ m.between), l.number_is);
-    chunks-are = all-chunks ∙ sym (append_assoc l.before (some l.chunk ∷ m.between) (some m.chunk ∷ m.beyond));
+    chunks_are = all-chunks ∙ sym (append_assoc l.before (some l.chunk ∷ m.between) (some m.chunk ∷ m.beyond));
   }
 
   module _ (n : ℕ) (rest : List ℕ) where
@@ -284,12 +284,12 @@ module _ (s : State Span) {c : ℕ} (l : Live s.chunks c) (m : NextLive l.after)
     join-law =
         ap (λ (chunks : List (Option (Chunk Span))). join_words (encode n (record { chunks = chunks; reductions = s.reductions; moves = s.moves }) ++ rest) c next_number)
         all-chunks
-        ∙ law n l.before l.chunk m.between m.all-gone m.chunk m.beyond s.reductions s.moves rest c next_number l.number_is refl
+        ∙ law n l.before l.chunk m.between m.all_gone m.chunk m.beyond s.reductions s.moves rest c next_number l.number_is refl
 
 pub join-ready : {t N n : ℕ} {s : State Span} (k : Kept t N n s) (rest : List ℕ) {c : ℕ} (l : Live s.chunks c) (m : NextLive l.after)
     → Joinable (encode n s ++ rest) c (next_number s l m)
 join-ready {n = n} {s = s} k rest l m =
-    let other : Live s.chunks (next_number s l m) = next-chunk s l m in
+    let other : Live s.chunks (next_number s l m) = next_chunk s l m in
     let from : from_of (encode n s ++ rest) (next_number s l m) ≡ total other.before = from-word n s rest other in
     let head : head_of (encode n s ++ rest) (next_number s l m) ≡ total other.before + stack_size other.chunk.stack = head-word n s rest other in
     record {
@@ -297,5 +297,5 @@ join-ready {n = n} {s = s} k rest l m =
       left = rw (chunks-at n s rest) (number-within n s rest l);
       right = rw (chunks-at n s rest) (number-within n s rest other);
       from = omega arith;
-      room = omega (arith, slots-within k rest, ends-within k rest other);
+      room = omega (arith, slots-within k rest, ends_within k rest other);
     }

@@ -3,7 +3,7 @@
 -- docs/AREA.md, rules (d) to (g) and (i).
 -- Rests on layout's Kept, Lengths and RowCounts and shape's Tiling, and on machine's Allowed.
 --
--- Main statements: symbols-around, stack-tiles, unread-tiles, stack-ranged, unread-ranged, marks-fine, stack-terminals, nothing-live.
+-- Main statements: symbols-around, stack-tiles, unread-tiles, stack-ranged, unread-ranged, marks-fine, stack-terminals, nothing_live.
 use Rattle.std.specs.Prelude.{◌≡◌, refl, List, [], ◌∷◌, ◌++◌, ℕ, ◌+◌, ◌<◌, ◌≤◌, length}
 use Rattle.std.proofs.Common.{ap, ◌∙◌, append_assoc, arith, length-append}
 use Rattle.std.proofs.Math.Option.{Option, none, some}
@@ -13,10 +13,10 @@ use Rattle.machine.specs.Chunks.{Chunk}
 use Rattle.machine.specs.States.{State, live}
 use Rattle.machine.specs.Starts.{symbols_along}
 use Rattle.results.specs.RunsEnd.{terminals_on, MarksFine}
-use Rattle.results.specs.Bounded.{terminals_in, AllFine, all-fine-cons}
-use Rattle.machine.specs.Allowed.{AllGone, no_number, one-gone, Live}
+use Rattle.results.specs.Bounded.{terminals_in, AllFine, all_fine_cons}
+use Rattle.machine.specs.Allowed.{AllGone, no_number, one_gone, Live}
 use Rattle.layout.specs.Layout.{stack_size, total}
-use Rattle.layout.specs.Kept.{Tiles, AllInRange, LastHolds, later-holds, Ending, whole, accepted, Kept}
+use Rattle.layout.specs.Kept.{Tiles, AllInRange, LastHolds, later_holds, Ending, whole, accepted, Kept}
 use Rattle.layout.specs.Lengths.{stack-size, symbols-size, tiles-end}
 use Rattle.layout.specs.RowCounts.{holds-some}
 use Rattle.shape.specs.Tiling.{Split, tiles-split, ranged-split}
@@ -34,8 +34,8 @@ symbols-append [] others = refl
 symbols-append (c ∷ chunks) others = rw (symbols-append chunks others, append_assoc, append_assoc)
 
 fine-at : (chunks : List (Chunk Span)) (c : Chunk Span) (others : List (Chunk Span)) → AllFine (chunks ++ (c ∷ others)) → MarksFine c.stack
-fine-at [] c others (all-fine-cons o os) = o
-fine-at (d ∷ chunks) c others (all-fine-cons o os) = fine-at chunks c others os
+fine-at [] c others (all_fine_cons o os) = o
+fine-at (d ∷ chunks) c others (all_fine_cons o os) = fine-at chunks c others os
 
 terminals-at : (chunks : List (Chunk Span)) (c : Chunk Span) (others : List (Chunk Span)) → terminals_on c.stack ≤ terminals_in (chunks ++ (c ∷ others))
 terminals-at [] c others = omega arith
@@ -43,9 +43,9 @@ terminals-at (d ∷ chunks) c others = omega (arith, terminals-at chunks c other
 
 -- the last of some chunks, where one is not the last
 later_last : (chunks : List (Chunk Span)) (c d : Chunk Span) (others : List (Chunk Span)) → LastHolds (chunks ++ (c ∷ d ∷ others)) → LastHolds (d ∷ others)
-later_last [] c d others (later-holds h) = h
-later_last (e ∷ []) c d others (later-holds h) = later_last [] c d others h
-later_last (e ∷ f ∷ chunks) c d others (later-holds h) = later_last (f ∷ chunks) c d others h
+later_last [] c d others (later_holds h) = h
+later_last (e ∷ []) c d others (later_holds h) = later_last [] c d others h
+later_last (e ∷ f ∷ chunks) c d others (later_holds h) = later_last (f ∷ chunks) c d others h
 
 -- the last of several live chunks holds a symbol
 several-hold : {n end : ℕ} {chunks : List (Chunk Span)} → 1 < length chunks → Ending n chunks end → LastHolds chunks
@@ -54,14 +54,14 @@ several-hold h (accepted q) = absurd (omega arith)
 
 none-live : (chunks : List (Option (Chunk Span))) → live chunks ≡ [] → AllGone chunks
 none-live [] q = no_number
-none-live (none ∷ chunks) q = one-gone (none-live chunks q)
+none-live (none ∷ chunks) q = one_gone (none-live chunks q)
 none-live (some c ∷ chunks) q = let z : ◌≡◌ {A = ℕ} 0 1 = cc in absurd (omega arith)
 
 -- ---- one chunk
 
 module _ {t N n : ℕ} {s : State Span} (k : Kept t N n s) {c : ℕ} (l : Live s.chunks c) where
   live-are : live s.chunks ≡ live l.before ++ (l.chunk ∷ live l.after)
-  live-are = ap live l.chunks-are ∙ live-around l.before l.chunk l.after
+  live-are = ap live l.chunks_are ∙ live-around l.before l.chunk l.after
 
   -- the row's symbols, around those of the chunk
   pub symbols-around : symbols_along (live s.chunks)
@@ -111,8 +111,8 @@ module _ {t N n : ℕ} {s : State Span} (k : Kept t N n s) {c : ℕ} (l : Live s
   stack-terminals = rw live-are (terminals-at (live l.before) l.chunk (live l.after))
 
   -- where no later chunk holds a symbol, no later chunk is live
-  pub nothing-live : symbols_along (live l.after) ≡ [] → AllGone l.after
-  nothing-live h = go (live l.after) refl (rw live-are at k.ending) h
+  pub nothing_live : symbols_along (live l.after) ≡ [] → AllGone l.after
+  nothing_live h = go (live l.after) refl (rw live-are at k.ending) h
     where
       go : (others : List (Chunk Span)) → live l.after ≡ others → Ending n (live l.before ++ (l.chunk ∷ others)) k.end → symbols_along others ≡ [] → AllGone l.after
       go [] q e h = none-live l.after q

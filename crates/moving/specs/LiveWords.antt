@@ -11,7 +11,7 @@ use Rattle.laws.specs.Tests.{lt-ltb}
 use Rattle.language.specs.Trees.{Span}
 use Rattle.machine.specs.Chunks.{Chunk}
 use Rattle.machine.specs.States.{State}
-use Rattle.machine.specs.Allowed.{AllGone, no_number, one-gone, Live, NextLive}
+use Rattle.machine.specs.Allowed.{AllGone, no_number, one_gone, Live, NextLive}
 use Rattle.machine.specs.AllowedExactly.{LiveView, is-live, not_live}
 use Rattle.machine.proofs.AllowedExactly.{live_view, live-drop}
 use Rattle.layout.specs.Layout.{encode, row_word, status_word}
@@ -24,29 +24,29 @@ is_live (some c) = true
 
 -- the first live one of some numbers, the first of them i
 pub data NextIs (chunks : List (Option (Chunk Span))) (i : ℕ) : Option ℕ → Type 0 where
-  next-is : {d : ℕ} (m : NextLive chunks) → d ≡ i + length m.between → NextIs chunks i (some d)
-  no-next : AllGone chunks → NextIs chunks i none
+  next_is : {d : ℕ} (m : NextLive chunks) → d ≡ i + length m.between → NextIs chunks i (some d)
+  no_next : AllGone chunks → NextIs chunks i none
 
 first_live : (test : ℕ → Bool) (chunks : List (Option (Chunk Span))) (i : ℕ) → ((j : ℕ) → j < length chunks → test (i + j) ≡ is_live (get_or chunks j none))
     → NextIs chunks i (first_from test (length chunks) i)
-first_live test [] i h = no-next no_number
+first_live test [] i h = no_next no_number
 first_live test (some c ∷ chunks) i h =
     rw (ap test (sym (add-zero i)) ∙ h 0 (omega arith), first_from)
-    (next-is {d = i} (record { between = []; chunk = c; beyond = chunks; all-gone = no_number; after_is = refl }) (omega arith))
+    (next_is {d = i} (record { between = []; chunk = c; beyond = chunks; all_gone = no_number; after_is = refl }) (omega arith))
 first_live test (none ∷ chunks) i h =
     let later : (j : ℕ) → j < length chunks → test (suc i + j) ≡ is_live (get_or chunks j none) = λ j l. ap test (omega arith) ∙ h (suc j) (omega arith) in
     rw (ap test (sym (add-zero i)) ∙ h 0 (omega arith), first_from) (one_further (first_live test chunks (suc i) later))
   where
     one_further : {o : Option ℕ} → NextIs chunks (suc i) o → NextIs (none ∷ chunks) i o
-    one_further (next-is {d = d} m q) =
-        next-is {d = d} (record {
+    one_further (next_is {d = d} m q) =
+        next_is {d = d} (record {
           between = none ∷ m.between;
           chunk = m.chunk;
           beyond = m.beyond;
-          all-gone = one-gone m.all-gone;
+          all_gone = one_gone m.all_gone;
           after_is = ap (λ (l : List (Option (Chunk Span))). none ∷ l) m.after_is;
         }) (omega arith)
-    one_further (no-next g) = no-next (one-gone g)
+    one_further (no_next g) = no_next (one_gone g)
 
 module _ (n : ℕ) (s : State Span) (rest : List ℕ) where
   -- a status word is 0 exactly where the number is gone

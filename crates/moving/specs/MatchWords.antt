@@ -48,7 +48,7 @@ matched_of (some r) = Rule r
 
 -- the contents are there, of one rule at least, and every body starts within the run
 pub record Readable (words : List ℕ) : Type 0 where
-  pub some-rule : 0 < count_r words
+  pub some_rule : 0 < count_r words
   pub long : 4 + count_r words ≤ length words
   pub within : (r : ℕ) → r < count_r words → entry words r ≤ length words
 

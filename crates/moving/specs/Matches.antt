@@ -20,7 +20,7 @@ use Rattle.language.specs.Matching.{matching}
 use Rattle.language.proofs.Matching.{matching-finds}
 use Rattle.language.specs.Trees.{Span}
 use Rattle.words.specs.Laid
-use Rattle.words.specs.Rules.{right_of, is-terminal, is-nonterminal, words_back}
+use Rattle.words.specs.Rules.{right_of, is_terminal, is_nonterminal, words_back}
 use Rattle.machine.specs.Entries.{Entry, terminal_on, nonterminal_on, symbol, unmarked, stack_symbols}
 use Rattle.results.specs.Bounded.{length-of-stack}
 use Rattle.layout.specs.Layout.{size, stack_size, slot_word}
@@ -31,7 +31,7 @@ use Rattle.moving.specs.MatchWords.{handle_words, same_words, has_right, match_w
 
 -- words that pass 1 and 2
 pub readable : {words : List ℕ} → Laid.Laid words → Readable words
-readable {words} l = record { some-rule = l.headed.some-rule; long = l.present; within = λ r h. omega (arith, l.least r h, Laid.within words l r h) }
+readable {words} l = record { some_rule = l.headed.some_rule; long = l.present; within = λ r h. omega (arith, l.least r h, Laid.within words l r h) }
 
 -- ---- up the blocks of a stack
 
@@ -100,8 +100,8 @@ module _ (area : List ℕ) (s : ℕ) where
 -- ---- words and symbols
 
 symbol-back : (x : Entry Span) (stack : List (Entry Span)) → Told (x ∷ stack) → symbol_of (word_of (symbol (unmarked x))) ≡ symbol (unmarked x)
-symbol-back (terminal_on mark a v) stack t = is-terminal a t.0
-symbol-back (nonterminal_on k v) stack t = is-nonterminal (256 + k) (omega arith) ∙ ap nonterminal (omega arith)
+symbol-back (terminal_on mark a v) stack t = is_terminal a t.0
+symbol-back (nonterminal_on k v) stack t = is_nonterminal (256 + k) (omega arith) ∙ ap nonterminal (omega arith)
 
 symbols-back : (stack : List (Entry Span)) → Told stack
     → map symbol_of (map word_of (map symbol (stack_symbols stack))) ≡ map symbol (stack_symbols stack)

@@ -26,7 +26,7 @@ use Rattle.machine.specs.Allowed.{runs, is_stuck, HandleAbove, EndAndAxiom, end-
 use Rattle.machine.proofs.AllowedExactly.{handle-to, whole_from, live_to}
 use Rattle.layout.specs.Layout.{mark_word, stack_size, marks, unread_size, status_word, encode, row_word, slot_word}
 use Rattle.layout.specs.Lengths.{within-slots}
-use Rattle.layout.specs.Kept.{SymbolInRange, AllInRange, in-range, Kept}
+use Rattle.layout.specs.Kept.{SymbolInRange, AllInRange, in_range, Kept}
 use Rattle.moving.specs.MoveWords.{from_of, head_of, end_of, push_words, stick_words, accept_words, reduce_words}
 use Rattle.moving.specs.AroundChunk.{status-word, head-word, end-word, from-word, next-symbol}
 use Rattle.moving.specs.KeptAround.{unread-ranged}
@@ -88,7 +88,7 @@ word-nonterminal t N (terminal_at a v) b f r e h = absurd (omega arith)
 word-nonterminal t N (nonterminal_at k v) b f r e h = (k, v, refl)
 
 first-ranged : {t N : ℕ} {x : Unread Span} {symbols : List (Unread Span)} → AllInRange t N (x ∷ symbols) → SymbolInRange t N (symbol x)
-first-ranged (in-range i r) = i
+first-ranged (in_range i r) = i
 
 -- "the stack is # and an axiom"
 record Whole (stack : List (Entry Span)) : Type 0 where
@@ -108,32 +108,32 @@ module _ (words bytes : List ℕ) where
   -- the words that one move of chunk c leaves, by the rule that makes it: the chunk's stack, and the word b of its next unread symbol
   pub data Leaves (area : List ℕ) (c : ℕ) (stack : List (Entry Span)) (b : ℕ) : List ℕ → Type 0 where
     -- 1. "b is a nonterminal: if the top is one too, stuck with 20; else put it on the stack."
-    rule-1-stuck : 256 ≤ b → top_is_nonterminal stack ≡ true → Leaves area c stack b (stick_words area c 20)
-    rule-1 : 256 ≤ b → top_is_nonterminal stack ≡ false → Leaves area c stack b (push_words area c 0)
+    rule_1_stuck : 256 ≤ b → top_is_nonterminal stack ≡ true → Leaves area c stack b (stick_words area c 20)
+    rule_1 : 256 ≤ b → top_is_nonterminal stack ≡ false → Leaves area c stack b (push_words area c 0)
     -- 2. "The stack has no terminal: put b on it, unmarked."
-    rule-2 : b < 256 → top_terminal stack ≡ none → Leaves area c stack b (push_words area c 0)
+    rule_2 : b < 256 → top_terminal stack ≡ none → Leaves area c stack b (push_words area c 0)
     -- 3. "a over b blank: stuck with 17."
-    rule-3 : {a : ℕ} → b < 256 → top_terminal stack ≡ some a → relation_at bytes a b ≡ blank → Leaves area c stack b (stick_words area c 17)
+    rule_3 : {a : ℕ} → b < 256 → top_terminal stack ≡ some a → relation_at bytes a b ≡ blank → Leaves area c stack b (stick_words area c 17)
     -- 4. "Yields: put b on, marked."
-    rule-4-yields : {a : ℕ} → b < 256 → top_terminal stack ≡ some a → relation_at bytes a b ≡ yields → Leaves area c stack b (push_words area c 1)
+    rule_4_yields : {a : ℕ} → b < 256 → top_terminal stack ≡ some a → relation_at bytes a b ≡ yields → Leaves area c stack b (push_words area c 1)
     -- "Equal: put b on, unmarked; but for # over #,"
-    rule-4-equal : {a : ℕ} → b < 256 → top_terminal stack ≡ some a → relation_at bytes a b ≡ equal → (eqb a 0 && eqb b 0) ≡ false
+    rule_4_equal : {a : ℕ} → b < 256 → top_terminal stack ≡ some a → relation_at bytes a b ≡ equal → (eqb a 0 && eqb b 0) ≡ false
         → Leaves area c stack b (push_words area c 0)
     -- "if the stack is # and an axiom read #, the stack unchanged, else stuck with 19."
-    rule-4-last : {a : ℕ} → b < 256 → top_terminal stack ≡ some a → relation_at bytes a b ≡ equal → (eqb a 0 && eqb b 0) ≡ true
+    rule_4_last : {a : ℕ} → b < 256 → top_terminal stack ≡ some a → relation_at bytes a b ≡ equal → (eqb a 0 && eqb b 0) ≡ true
         → is_whole table stack ≡ true → Leaves area c stack b (accept_words area c)
-    rule-4-stuck : {a : ℕ} → b < 256 → top_terminal stack ≡ some a → relation_at bytes a b ≡ equal → (eqb a 0 && eqb b 0) ≡ true
+    rule_4_stuck : {a : ℕ} → b < 256 → top_terminal stack ≡ some a → relation_at bytes a b ≡ equal → (eqb a 0 && eqb b 0) ≡ true
         → is_whole table stack ≡ false → Leaves area c stack b (stick_words area c 19)
     -- 5. "Takes, a marked terminal on the stack: the handle .. If a rule has this right side, replace it by the left side of the
     -- least such rule, b staying unread; otherwise stuck with 18."
-    rule-5 : {a r : ℕ} {handle below : List (Entry Span)} → b < 256 → top_terminal stack ≡ some a → relation_at bytes a b ≡ takes
+    rule_5 : {a r : ℕ} {handle below : List (Entry Span)} → b < 256 → top_terminal stack ≡ some a → relation_at bytes a b ≡ takes
         → HandleAbove stack handle below → matching (grammar_of words) (map symbol (stack_symbols handle)) ≡ some r
         → Leaves area c stack b (reduce_words area c (from_of area c + stack_size below) (256 + left_side (grammar_of words) r) r)
-    rule-5-stuck : {a : ℕ} {handle below : List (Entry Span)} → b < 256 → top_terminal stack ≡ some a → relation_at bytes a b ≡ takes
+    rule_5_stuck : {a : ℕ} {handle below : List (Entry Span)} → b < 256 → top_terminal stack ≡ some a → relation_at bytes a b ≡ takes
         → HandleAbove stack handle below → matching (grammar_of words) (map symbol (stack_symbols handle)) ≡ none
         → Leaves area c stack b (stick_words area c 18)
     -- 6. "Takes, no mark on the stack: put b on, unmarked."
-    rule-6 : {a : ℕ} → b < 256 → top_terminal stack ≡ some a → relation_at bytes a b ≡ takes → marks stack ≡ 0
+    rule_6 : {a : ℕ} → b < 256 → top_terminal stack ≡ some a → relation_at bytes a b ≡ takes → marks stack ≡ 0
         → Leaves area c stack b (push_words area c 0)
 
   -- these words are those of the state after a step of chunk c
@@ -148,26 +148,26 @@ module _ (words bytes : List ℕ) where
     Chunks x = s.chunks ≡ earlier ++ (some (runs stack (x ∷ unread)) ∷ later)
 
     abbrev here : (x : Unread Span) → Chunks x → Live s.chunks c
-    here x q = record { before = earlier; chunk = runs stack (x ∷ unread); after = later; number_is = number; chunks-are = q }
+    here x q = record { before = earlier; chunk = runs stack (x ∷ unread); after = later; number_is = number; chunks_are = q }
 
-    abbrev words-then : List ℕ
-    words-then = encode n s ++ rest
+    abbrev words_then : List ℕ
+    words_then = encode n s ++ rest
 
-    stuck-so : (why : Stuck) (x : Unread Span) → Chunks x → move table stack x ≡ sticks why → Stepped n s rest c (stick_words words-then c (status_word (stuck why)))
-    stuck-so why x q m = record {
+    stuck_so : (why : Stuck) (x : Unread Span) → Chunks x → move table stack x ≡ sticks why → Stepped n s rest c (stick_words words_then c (status_word (stuck why)))
+    stuck_so why x q m = record {
       then = made_at c s [] (is_stuck why stack (x ∷ unread));
       steps = rw (live_to (here x q), step, m);
       are = stick-law n s rest (here x q) (stuck why);
     }
 
-    pushed-so : (e : Entry Span) → Chunks (unmarked e) → move table stack (unmarked e) ≡ reads (e ∷ stack) → Stepped n s rest c (push_words words-then c (mark_word e))
+    pushed-so : (e : Entry Span) → Chunks (unmarked e) → move table stack (unmarked e) ≡ reads (e ∷ stack) → Stepped n s rest c (push_words words_then c (mark_word e))
     pushed-so e q m = record {
       then = made_at c s [] (runs (e ∷ stack) unread);
       steps = rw (live_to (here (unmarked e) q), step, m);
       are = push-law n s rest (here (unmarked e) q) e unread refl;
     }
 
-    accepted-so : (v : Span) → Chunks (terminal_at 0 v) → move table stack (terminal_at 0 v) ≡ reads stack → EndAndAxiom table stack → Stepped n s rest c (accept_words words-then c)
+    accepted-so : (v : Span) → Chunks (terminal_at 0 v) → move table stack (terminal_at 0 v) ≡ reads stack → EndAndAxiom table stack → Stepped n s rest c (accept_words words_then c)
     accepted-so v q m w =
         let l : Live s.chunks c = here (terminal_at 0 v) q in
         let z = whole-stack w in
@@ -175,11 +175,11 @@ module _ (words bytes : List ℕ) where
         record {
           then = made_at c s [] (runs stack []);
           steps = rw (live_to l, step, m, last.no_more);
-          are = accept-law n s rest l v (ap (λ (more : List (Unread Span)). terminal_at 0 v ∷ more) last.no_more) last.all-gone (within-slots k);
+          are = accept-law n s rest l v (ap (λ (more : List (Unread Span)). terminal_at 0 v ∷ more) last.no_more) last.all_gone (within-slots k);
         }
 
     last-so : (a b : ℕ) (v : Span) → Chunks (terminal_at b v) → top_terminal stack ≡ some a → relation_at bytes a b ≡ equal → (eqb a 0 && eqb b 0) ≡ true
-        → is_whole table stack ≡ true → Stepped n s rest c (accept_words words-then c)
+        → is_whole table stack ≡ true → Stepped n s rest c (accept_words words_then c)
     last-so a b v p top r o w =
         let z : b ≡ 0 = eqb-true b 0 (and_both (eqb a 0) (eqb b 0) o).1 in
         let m : move table stack (terminal_at b v) ≡ reads stack = rw (top, r, o, w) in
@@ -188,7 +188,7 @@ module _ (words bytes : List ℕ) where
     reduced-so : {r : ℕ} {handle below : List (Entry Span)} (x : Unread Span) → Chunks x → HandleAbove stack handle below
         → move table stack x
         ≡ replaces r (span_of (map value_of (stack_symbols handle))) (nonterminal_on (left_side (grammar_of words) r) (span_of (map value_of (stack_symbols handle))) ∷ below)
-        → Stepped n s rest c (reduce_words words-then c (from_of words-then c + stack_size below) (256 + left_side (grammar_of words) r) r)
+        → Stepped n s rest c (reduce_words words_then c (from_of words_then c + stack_size below) (256 + left_side (grammar_of words) r) r)
     reduced-so {r} {handle} {below} x q h m =
         let l : Live s.chunks c = here x q in
         let v : Span = span_of (map value_of (stack_symbols handle)) in
@@ -207,28 +207,28 @@ module _ (words bytes : List ℕ) where
         → ((j : ℕ) (v : Span) → Chunks (nonterminal_at j v) → Stepped n s rest c area) → Chunks x → Stepped n s rest c area
     nonterminal-so x b f i e h use-it q = let z = word-nonterminal t N x b f i e h in use-it z.0 z.1 (rw z.2 at q)
 
-    by-rule : {b : ℕ} {area : List ℕ} (x : Unread Span) → t < 256 → SymbolInRange t N (symbol x) → word_of (symbol x) ≡ b → Chunks x → Leaves words-then c stack b area
+    by_rule : {b : ℕ} {area : List ℕ} (x : Unread Span) → t < 256 → SymbolInRange t N (symbol x) → word_of (symbol x) ≡ b → Chunks x → Leaves words_then c stack b area
         → Stepped n s rest c area
-    by-rule {b} x f i e q (rule-1-stuck h top) = nonterminal-so x b f i e h (λ j v p. stuck-so side_by_side (nonterminal_at j v) p (rw top)) q
-    by-rule {b} x f i e q (rule-1 h top) = nonterminal-so x b f i e h (λ j v p. pushed-so (nonterminal_on j v) p (rw top)) q
-    by-rule {b} x f i e q (rule-2 h top) = terminal-so x b e h (λ v p. pushed-so (terminal_on false b v) p (rw top)) q
-    by-rule {b} x f i e q (rule-3 h top r) = terminal-so x b e h (λ v p. stuck-so no_relation (terminal_at b v) p (rw (top, r))) q
-    by-rule {b} x f i e q (rule-4-yields h top r) = terminal-so x b e h (λ v p. pushed-so (terminal_on true b v) p (rw (top, r))) q
-    by-rule {b} x f i e q (rule-4-equal h top r o) = terminal-so x b e h (λ v p. pushed-so (terminal_on false b v) p (rw (top, r, o))) q
-    by-rule {b} x f i e q (rule-4-last {a = a} h top r o w) = terminal-so x b e h (λ v p. last-so a b v p top r o w) q
-    by-rule {b} x f i e q (rule-4-stuck h top r o w) = terminal-so x b e h (λ v p. stuck-so not_axiom (terminal_at b v) p (rw (top, r, o, w))) q
-    by-rule {b} x f i e q (rule-5 h top r a m) = terminal-so x b e h (λ v p. reduced-so (terminal_at b v) p a (rw (top, r, handle-to a [], append-nil, m))) q
-    by-rule {b} x f i e q (rule-5-stuck h top r a m) = terminal-so x b e h (λ v p. stuck-so no_rule (terminal_at b v) p (rw (top, r, handle-to a [], append-nil, m))) q
-    by-rule {b} x f i e q (rule-6 h top r z) = terminal-so x b e h (λ v p. pushed-so (terminal_on false b v) p (rw (top, r, marks-none stack [] z))) q
+    by_rule {b} x f i e q (rule_1_stuck h top) = nonterminal-so x b f i e h (λ j v p. stuck_so side_by_side (nonterminal_at j v) p (rw top)) q
+    by_rule {b} x f i e q (rule_1 h top) = nonterminal-so x b f i e h (λ j v p. pushed-so (nonterminal_on j v) p (rw top)) q
+    by_rule {b} x f i e q (rule_2 h top) = terminal-so x b e h (λ v p. pushed-so (terminal_on false b v) p (rw top)) q
+    by_rule {b} x f i e q (rule_3 h top r) = terminal-so x b e h (λ v p. stuck_so no_relation (terminal_at b v) p (rw (top, r))) q
+    by_rule {b} x f i e q (rule_4_yields h top r) = terminal-so x b e h (λ v p. pushed-so (terminal_on true b v) p (rw (top, r))) q
+    by_rule {b} x f i e q (rule_4_equal h top r o) = terminal-so x b e h (λ v p. pushed-so (terminal_on false b v) p (rw (top, r, o))) q
+    by_rule {b} x f i e q (rule_4_last {a = a} h top r o w) = terminal-so x b e h (λ v p. last-so a b v p top r o w) q
+    by_rule {b} x f i e q (rule_4_stuck h top r o w) = terminal-so x b e h (λ v p. stuck_so not_axiom (terminal_at b v) p (rw (top, r, o, w))) q
+    by_rule {b} x f i e q (rule_5 h top r a m) = terminal-so x b e h (λ v p. reduced-so (terminal_at b v) p a (rw (top, r, handle-to a [], append-nil, m))) q
+    by_rule {b} x f i e q (rule_5_stuck h top r a m) = terminal-so x b e h (λ v p. stuck_so no_rule (terminal_at b v) p (rw (top, r, handle-to a [], append-nil, m))) q
+    by_rule {b} x f i e q (rule_6 h top r z) = terminal-so x b e h (λ v p. pushed-so (terminal_on false b v) p (rw (top, r, marks-none stack [] z))) q
 
   -- the words that a move leaves are those of the state after it
   pub move-law : {t N n : ℕ} {s : State Span} (k : Kept t N n s) (rest : List ℕ) {c : ℕ} (l : Live s.chunks c) → t < 256 → Runs l.chunk → {area : List ℕ}
       → Leaves (encode n s ++ rest) c l.chunk.stack (slot_word (encode n s ++ rest) (head_of (encode n s ++ rest) c) 0) area → Stepped n s rest c area
   move-law {n = n} {s = s} k rest {c} l f r m =
-      by-rule k rest c l.before l.chunk.stack r.unread l.after l.number_is r.next f
+      by_rule k rest c l.before l.chunk.stack r.unread l.after l.number_is r.next f
       (first-ranged (rw (runs-unread r) at (unread-ranged k l)))
       (sym (next-symbol n s rest l r.next r.unread (runs-unread r)))
-      (l.chunks-are ∙ ap (λ (chunk : Chunk Span). l.before ++ (some chunk ∷ l.after)) r.is)
+      (l.chunks_are ∙ ap (λ (chunk : Chunk Span). l.before ++ (some chunk ∷ l.after)) r.is)
       m
 
   -- every move is one of these
@@ -241,37 +241,37 @@ module _ (words bytes : List ℕ) where
     where
       matched : {a : ℕ} → b < 256 → top_terminal stack ≡ some a → relation_at bytes a b ≡ takes → (h : SomeHandle stack) (o : Option ℕ)
           → matching (grammar_of words) (map symbol (stack_symbols h.handle)) ≡ o → SomeWords area c stack b
-      matched l top r h none m = record { left = _; leaves = rule-5-stuck l top r h.above m }
-      matched l top r h (some j) m = record { left = _; leaves = rule-5 l top r h.above m }
+      matched l top r h none m = record { left = _; leaves = rule_5_stuck l top r h.above m }
+      matched l top r h (some j) m = record { left = _; leaves = rule_5 l top r h.above m }
 
       taking : {a : ℕ} → b < 256 → top_terminal stack ≡ some a → relation_at bytes a b ≡ takes → (m : ℕ) → marks stack ≡ m → SomeWords area c stack b
-      taking l top r zero q = record { left = _; leaves = rule-6 l top r q }
+      taking l top r zero q = record { left = _; leaves = rule_6 l top r q }
       taking l top r (suc m) q =
           let h = marks-some stack (omega arith) in matched l top r h (matching (grammar_of words) (map symbol (stack_symbols h.handle))) refl
 
       ends : {a : ℕ} → b < 256 → top_terminal stack ≡ some a → relation_at bytes a b ≡ equal → (eqb a 0 && eqb b 0) ≡ true → (w : Bool) → is_whole table stack ≡ w
           → SomeWords area c stack b
-      ends l top r o true q = record { left = _; leaves = rule-4-last l top r o q }
-      ends l top r o false q = record { left = _; leaves = rule-4-stuck l top r o q }
+      ends l top r o true q = record { left = _; leaves = rule_4_last l top r o q }
+      ends l top r o false q = record { left = _; leaves = rule_4_stuck l top r o q }
 
       equals : {a : ℕ} → b < 256 → top_terminal stack ≡ some a → relation_at bytes a b ≡ equal → (o : Bool) → (eqb a 0 && eqb b 0) ≡ o → SomeWords area c stack b
       equals l top r true q = ends l top r q (is_whole table stack) refl
-      equals l top r false q = record { left = _; leaves = rule-4-equal l top r q }
+      equals l top r false q = record { left = _; leaves = rule_4_equal l top r q }
 
       related : (a : ℕ) → b < 256 → top_terminal stack ≡ some a → (r : Relation) → relation_at bytes a b ≡ r → SomeWords area c stack b
-      related a l top blank q = record { left = _; leaves = rule-3 l top q }
-      related a l top yields q = record { left = _; leaves = rule-4-yields l top q }
+      related a l top blank q = record { left = _; leaves = rule_3 l top q }
+      related a l top yields q = record { left = _; leaves = rule_4_yields l top q }
       related a l top equal q = equals l top q (eqb a 0 && eqb b 0) refl
       related a l top takes q = taking l top q (marks stack) refl
 
-      terminal-next : b < 256 → (top : Option ℕ) → top_terminal stack ≡ top → SomeWords area c stack b
-      terminal-next l none q = record { left = _; leaves = rule-2 l q }
-      terminal-next l (some a) q = related a l q (relation_at bytes a b) refl
+      terminal_next : b < 256 → (top : Option ℕ) → top_terminal stack ≡ top → SomeWords area c stack b
+      terminal_next l none q = record { left = _; leaves = rule_2 l q }
+      terminal_next l (some a) q = related a l q (relation_at bytes a b) refl
 
       nonterminal-next : 256 ≤ b → (on : Bool) → top_is_nonterminal stack ≡ on → SomeWords area c stack b
-      nonterminal-next l true q = record { left = _; leaves = rule-1-stuck l q }
-      nonterminal-next l false q = record { left = _; leaves = rule-1 l q }
+      nonterminal-next l true q = record { left = _; leaves = rule_1_stuck l q }
+      nonterminal-next l false q = record { left = _; leaves = rule_1 l q }
 
       go : Dec (b < 256) → SomeWords area c stack b
-      go (yes l) = terminal-next l (top_terminal stack) refl
+      go (yes l) = terminal_next l (top_terminal stack) refl
       go (no l) = nonterminal-next (omega arith) (top_is_nonterminal stack) refl

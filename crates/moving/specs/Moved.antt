@@ -5,7 +5,7 @@
 --
 -- Main definitions: Moved (the words that a move leaves), uncounted (before it is counted), CallsFor (the move that leaves them, and can be made); Facing, Compared, Takes,
 -- Taking (what is known on the way to it), HasLeft; live_in, rests_in.
--- Main statements: stuck-on-top, put-on-top, put_first, stuck-blank, put-marked, put-equal, ended, accepted, stuck-end,
+-- Main statements: stuck-on-top, put-on-top, put_first, stuck-blank, put_marked, put_equal, ended, accepted, stuck-end,
 -- put-unmarked, handle-there, handle-counts, replaced, stuck-rule; matrix-long, words-readable, has_left.
 use Rattle.std.specs.Prelude.{◌≡◌, refl, Bool, true, false, ◌&&◌, ◌||◌, List, [], ◌∷◌, map, ℕ, zero, suc, ◌+◌, ◌*◌, ◌/◌, ◌%◌, ◌<◌, ◌≤◌, eqb, ltb, leb, length, get_or, set}
 use Rattle.std.proofs.Common.{sym, ap, subst, ◌∙◌, arith}
@@ -40,7 +40,7 @@ use Rattle.moving.specs.ReadWords.{Told, Stacked, top_word, TopIs, NonterminalOn
 use Rattle.moving.specs.MatchWords.{handle_words, match_words, matched_of, Readable, Whole}
 use Rattle.moving.specs.Matches.{readable}
 use Rattle.moving.specs.HandleSlots.{SomeHandle, marks-some}
-use Rattle.moving.specs.MoveLaw.{Leaves, rule-1-stuck, rule-1, rule-2, rule-3, rule-4-yields, rule-4-equal, rule-4-last, rule-4-stuck, rule-5, rule-5-stuck, rule-6}
+use Rattle.moving.specs.MoveLaw.{Leaves, rule_1_stuck, rule_1, rule_2, rule_3, rule_4_yields, rule_4_equal, rule_4_last, rule_4_stuck, rule_5, rule_5_stuck, rule_6}
 use Rattle.moving.specs.OneMove.{Held, Movable, stack_of, stack-held, marks-held, top_small, next_small, can-reduce, below-held, can-match, starts-held, count_held, rule-held}
 
 -- ---- a chunk's number, and whether it is at rest, off its row of the table
@@ -66,8 +66,8 @@ module _ (area : List ℕ) (c : ℕ) where
   pub live-status : c < get_or area 1 0 → ltb 0 (row_word area c 0) ≡ live_in area c
   live-status h = sym (ap (λ (t : Bool). live_by t (row_word area c 0)) (lt-leb (get_or area 1 0) c h))
 
-  pub rests-stuck : (row_word area c 0 ≡ 1 → ⊥) → true ≡ rests_in area c
-  rests-stuck h = sym (ap (λ (t : Bool). rests_by t (end_of area c) (head_of area c)) (ne_eqb (row_word area c 0) 1 h))
+  pub rests_stuck : (row_word area c 0 ≡ 1 → ⊥) → true ≡ rests_in area c
+  rests_stuck h = sym (ap (λ (t : Bool). rests_by t (end_of area c) (head_of area c)) (ne_eqb (row_word area c 0) 1 h))
 
   pub rests-ended : row_word area c 0 ≡ 1 → leb (end_of area c) (head_of area c) ≡ rests_in area c
   rests-ended h = sym (ap (λ (t : Bool). rests_by t (end_of area c) (head_of area c)) (eq-eqb (row_word area c 0) 1 h))
@@ -156,7 +156,7 @@ pub record Takes (words bytes area : List ℕ) (c : ℕ) : Type 0 where
 
 -- "Takes, a marked terminal on the stack"
 pub record Taking (words bytes area : List ℕ) (c : ℕ) : Type 0 where
-  pub takes-over : Takes words bytes area c
+  pub takes_over : Takes words bytes area c
   pub marked : 0 < marks_of area c
 
 top-none : (stack : List (Entry Span)) → Told stack → {top : ℕ} → 256 ≤ top → top ≡ top_word (top_terminal stack) → top_terminal stack ≡ none
@@ -196,14 +196,14 @@ blank-other (suc (suc (suc (suc x)))) p q r = refl
 module _ {words bytes area : List ℕ} {c : ℕ} where
   -- 1
   pub stuck-on-top : 256 ≤ slot_word area (head_of area c) 0 → NonterminalOnTop area (from_of area c) (head_of area c) true → Moved words bytes area c (stick_words area c 20)
-  stuck-on-top h t = record { found = λ m. rule-1-stuck h (sym (t.found (stack_of m) (stack-held m))) }
+  stuck-on-top h t = record { found = λ m. rule_1_stuck h (sym (t.found (stack_of m) (stack-held m))) }
 
   pub put-on-top : 256 ≤ slot_word area (head_of area c) 0 → NonterminalOnTop area (from_of area c) (head_of area c) false → Moved words bytes area c (push_words area c 0)
-  put-on-top h t = record { found = λ m. rule-1 h (sym (t.found (stack_of m) (stack-held m))) }
+  put-on-top h t = record { found = λ m. rule_1 h (sym (t.found (stack_of m) (stack-held m))) }
 
   -- 2
   pub put_first : slot_word area (head_of area c) 0 < 256 → {top : ℕ} → 256 ≤ top → TopIs area (from_of area c) (head_of area c) top → Moved words bytes area c (push_words area c 0)
-  put_first h l t = record { found = λ m. rule-2 h (top-none (stack_of m) (stack-held m).told l (t.found (stack_of m) (stack-held m))) }
+  put_first h l t = record { found = λ m. rule_2 h (top-none (stack_of m) (stack-held m).told l (t.found (stack_of m) (stack-held m))) }
 
   module _ {a b : ℕ} (f : Facing words bytes area c a b) where
     over : (m : Movable words bytes area c) → top_terminal (stack_of m) ≡ some a
@@ -225,14 +225,14 @@ module _ {words bytes area : List ℕ} {c : ℕ} where
 
     -- 3
     pub stuck-blank : relation_from (get_or bytes (64 * a + b) 0) ≡ blank → Moved words bytes area c (stick_words area c 17)
-    stuck-blank e = of-next (λ m. rule-3 {a = a} f.terminal (over m) (relation-is blank e))
+    stuck-blank e = of-next (λ m. rule_3 {a = a} f.terminal (over m) (relation-is blank e))
 
     -- 4
-    pub put-marked : get_or bytes (64 * a + b) 0 ≡ 1 → Moved words bytes area c (push_words area c 1)
-    put-marked e = of-next (λ m. rule-4-yields {a = a} f.terminal (over m) (relation-is yields (ap relation_from e)))
+    pub put_marked : get_or bytes (64 * a + b) 0 ≡ 1 → Moved words bytes area c (push_words area c 1)
+    put_marked e = of-next (λ m. rule_4_yields {a = a} f.terminal (over m) (relation-is yields (ap relation_from e)))
 
-    pub put-equal : get_or bytes (64 * a + b) 0 ≡ 2 → (ltb 0 a || ltb 0 b) ≡ true → Moved words bytes area c (push_words area c 0)
-    put-equal e z = of-next (λ m. rule-4-equal {a = a} f.terminal (over m) (relation-is equal (ap relation_from e)) (not-both-end a b z))
+    pub put_equal : get_or bytes (64 * a + b) 0 ≡ 2 → (ltb 0 a || ltb 0 b) ≡ true → Moved words bytes area c (push_words area c 0)
+    put_equal e z = of-next (λ m. rule_4_equal {a = a} f.terminal (over m) (relation-is equal (ap relation_from e)) (not-both-end a b z))
 
   pub ended : {a b : ℕ} → Compared words bytes area c a b 2 → (ltb 0 a || ltb 0 b) ≡ false → Compared words bytes area c 0 0 2
   ended {a} {b} k z =
@@ -246,29 +246,29 @@ module _ {words bytes area : List ℕ} {c : ℕ} where
   pub accepted : Compared words bytes area c 0 0 2 → EndAndAxiom area (from_of area c) (head_of area c) (count_a words) true → Moved words bytes area c (accept_words area c)
   accepted k w =
       let f = k.facing in
-      of-next f (λ m. rule-4-last {a = 0} f.terminal (over f m) (relation-is f equal (ap relation_from k.byte)) refl (whole_is w m))
+      of-next f (λ m. rule_4_last {a = 0} f.terminal (over f m) (relation-is f equal (ap relation_from k.byte)) refl (whole_is w m))
 
   pub stuck-end : Compared words bytes area c 0 0 2 → EndAndAxiom area (from_of area c) (head_of area c) (count_a words) false → Moved words bytes area c (stick_words area c 19)
   stuck-end k w =
       let f = k.facing in
-      of-next f (λ m. rule-4-stuck {a = 0} f.terminal (over f m) (relation-is f equal (ap relation_from k.byte)) refl (whole_is w m))
+      of-next f (λ m. rule_4_stuck {a = 0} f.terminal (over f m) (relation-is f equal (ap relation_from k.byte)) refl (whole_is w m))
 
   -- 6
   pub put-unmarked : Takes words bytes area c → marks_of area c ≡ 0 → Moved words bytes area c (push_words area c 0)
   put-unmarked t z =
       let f = t.compared.facing in
-      of-next f (λ m. rule-6 {a = t.a} f.terminal (over f m) (relation-is f takes (ap relation_from t.compared.byte)) (sym (marks-held m) ∙ z))
+      of-next f (λ m. rule_6 {a = t.a} f.terminal (over f m) (relation-is f takes (ap relation_from t.compared.byte)) (sym (marks-held m) ∙ z))
 
   -- 5
   module _ (t : Taking words bytes area c) where
-    abbrev fact : Facing words bytes area c t.takes-over.a t.takes-over.b
-    fact = t.takes-over.compared.facing
+    abbrev fact : Facing words bytes area c t.takes_over.a t.takes_over.b
+    fact = t.takes_over.compared.facing
 
     pub the-handle : (m : Movable words bytes area c) → SomeHandle (stack_of m)
     the-handle m = marks-some (stack_of m) (omega (arith, marks-held m, t.marked))
 
-    is-taken : relation_at bytes t.takes-over.a t.takes-over.b ≡ takes
-    is-taken = relation-is fact takes (ap relation_from t.takes-over.compared.byte)
+    is-taken : relation_at bytes t.takes_over.a t.takes_over.b ≡ takes
+    is-taken = relation-is fact takes (ap relation_from t.takes_over.compared.byte)
 
     module _ (at : ℕ) (start : HandleStarts area (from_of area c) (head_of area c) at) where
       pub starts-at : (m : Movable words bytes area c) → at ≡ from_of area c + stack_size (the-handle m).below
@@ -293,7 +293,7 @@ module _ {words bytes area : List ℕ} {c : ℕ} where
 
       pub stuck-rule : matched.NoRule ≡ matched_of (match_words words (handle_words area at (head_of area c))) → Moved words bytes area c (stick_words area c 18)
       stuck-rule e =
-          of-next fact (λ m. rule-5-stuck {a = t.takes-over.a} fact.terminal (over fact m) is-taken (the-handle m).above (sym (the-rule m) ∙ rule-none _ e))
+          of-next fact (λ m. rule_5_stuck {a = t.takes_over.a} fact.terminal (over fact m) is-taken (the-handle m).above (sym (the-rule m) ∙ rule-none _ e))
 
       module _ (r : ℕ) (e : matched.Rule r ≡ matched_of (match_words words (handle_words area at (head_of area c)))) where
         matches : (m : Movable words bytes area c) → matching (grammar_of words) (map symbol (stack_symbols (the-handle m).handle)) ≡ some r
@@ -318,7 +318,7 @@ module _ {words bytes area : List ℕ} {c : ℕ} where
 
         pub replaced : Moved words bytes area c (reduce_words area c at (256 + word words (entry words r)) r)
         replaced = of-next fact (λ m.
-            rw (starts-at m, sym (left_is m)) (rule-5 {a = t.takes-over.a} {r = r} fact.terminal (over fact m) is-taken (the-handle m).above (matches m)))
+            rw (starts-at m, sym (left_is m)) (rule_5 {a = t.takes_over.a} {r = r} fact.terminal (over fact m) is-taken (the-handle m).above (matches m)))
 
         pub reduces : CallsFor words bytes area c (Reduce at (256 + word words (entry words r)) r)
         reduces =

@@ -6,7 +6,7 @@
 -- Main definitions: Held, Movable, Joining.
 -- Main statements: held-in-shape; live-held, held-live, runs-held, rests-held, next-held; can-push, can-stick, row-there, can-accept, can-reduce,
 -- can-read, can-match, below-held; stack-held, marks-held, top_small, next_small, starts-held, count_held, rule-held; moves_so, held-stepped, live-stepped;
--- can-join, joins-so, joined_words, held-joined.
+-- can-join, joins_so, joined_words, held-joined.
 use Rattle.std.specs.Prelude.{◌≡◌, true, List, ◌++◌, map, ℕ, ◌+◌, ◌<◌, ◌≤◌, length, get_or, drop}
 use Rattle.std.proofs.Common.{sym, ap, subst, ◌∙◌, arith}
 use Rattle.std.proofs.Math.Option.{some}
@@ -17,7 +17,7 @@ use Rattle.machine.specs.Entries.{Entry, symbol, stack_symbols, top_terminal}
 use Rattle.machine.specs.Chunks.{at_rest}
 use Rattle.machine.specs.States.{State, became, join}
 use Rattle.machine.specs.TableOf.{table_of}
-use Rattle.machine.specs.Schedules.{by-step, by-join}
+use Rattle.machine.specs.Schedules.{by_step, by_join}
 use Rattle.machine.specs.Allowed.{HandleAbove, Live, Steps, NextLive}
 use Rattle.machine.proofs.AllowedExactly.{step-exactly}
 use Rattle.layout.specs.Layout.{need, stack_size, marks, encode, decode, table_at, row_word, slot_word}
@@ -48,7 +48,7 @@ pub record Held (words bytes area : List ℕ) : Type 0 where
   pub tokens : ℕ
   pub state : State Span
   pub rest : List ℕ
-  pub area-is : area ≡ encode tokens state ++ rest
+  pub area_is : area ≡ encode tokens state ++ rest
   pub grammar : grammar_in_shape words bytes ≡ true
   pub kept : Kept (count_t words) (count_n words) tokens state
 
@@ -60,7 +60,7 @@ held-in-shape words bytes area low h =
       tokens = get_or area 0 0;
       state = decode area;
       rest = drop (need (get_or area 0 0) (get_or area 1 0)) area;
-      area-is = r.is;
+      area_is = r.is;
       grammar = (in-shape-parts words bytes area h).0;
       kept = r.kept;
     }
@@ -76,36 +76,36 @@ module _ {words bytes area : List ℕ} (h : Held words bytes area) where
     tokens = h.tokens;
     state = r.then;
     rest = h.rest;
-    area-is = r.are;
+    area_is = r.are;
     grammar = h.grammar;
-    kept = safe-turned words bytes h.grammar h.kept (by-step c r.steps);
+    kept = safe-turned words bytes h.grammar h.kept (by_step c r.steps);
   }
 
   pub live-stepped : {c : ℕ} {area' : List ℕ} (r : Stepped words bytes h.tokens h.state h.rest c area') → Live r.then.chunks c
   live-stepped {c} r =
       let m : Steps (table_of words bytes) c h.state r.then = (step-exactly (table_of words bytes) c h.state r.then).1 r.steps in
-      record { before = m.live.before; chunk = m.chunk'; after = m.live.after; number_is = m.live.number_is; chunks-are = m.chunks-then }
+      record { before = m.live.before; chunk = m.chunk'; after = m.live.after; number_is = m.live.number_is; chunks_are = m.chunks_then }
 
 -- ---- which chunks are live, and which are at rest
 
 module _ {words bytes area : List ℕ} (h : Held words bytes area) where
   pub live-held : {c : ℕ} → c < get_or area 1 0 → 0 < row_word area c 0 → Live h.state.chunks c
-  live-held {c} = subst (λ a. c < get_or a 1 0 → 0 < row_word a c 0 → Live h.state.chunks c) (sym h.area-is) (live-number h.tokens h.state h.rest)
+  live-held {c} = subst (λ a. c < get_or a 1 0 → 0 < row_word a c 0 → Live h.state.chunks c) (sym h.area_is) (live-number h.tokens h.state h.rest)
 
   pub held-live : {c : ℕ} → Live h.state.chunks c → (c < get_or area 1 0) × (0 < row_word area c 0)
-  held-live {c} l = subst (λ a. (c < get_or a 1 0) × (0 < row_word a c 0)) (sym h.area-is) (number-live h.tokens h.state h.rest l)
+  held-live {c} l = subst (λ a. (c < get_or a 1 0) × (0 < row_word a c 0)) (sym h.area_is) (number-live h.tokens h.state h.rest l)
 
   module _ {c : ℕ} (l : Live h.state.chunks c) where
     pub runs-held : row_word area c 0 ≡ 1 → head_of area c < end_of area c → Runs l.chunk
-    runs-held = subst (λ a. row_word a c 0 ≡ 1 → head_of a c < end_of a c → Runs l.chunk) (sym h.area-is) (runs-words h.tokens h.state h.rest l)
+    runs-held = subst (λ a. row_word a c 0 ≡ 1 → head_of a c < end_of a c → Runs l.chunk) (sym h.area_is) (runs-words h.tokens h.state h.rest l)
 
     pub rests-held : (row_word area c 0 ≡ 1 → end_of area c ≤ head_of area c) → at_rest l.chunk ≡ true
     rests-held =
-        subst (λ a. (row_word a c 0 ≡ 1 → end_of a c ≤ head_of a c) → at_rest l.chunk ≡ true) (sym h.area-is) (rests-words h.tokens h.state h.rest l)
+        subst (λ a. (row_word a c 0 ≡ 1 → end_of a c ≤ head_of a c) → at_rest l.chunk ≡ true) (sym h.area_is) (rests-words h.tokens h.state h.rest l)
 
     -- the least live number after c
     pub next-held : NextIs l.after (c + 1) (live_after area c)
-    next-held = subst (λ a. NextIs l.after (c + 1) (live_after a c)) (sym h.area-is) (next-status h.tokens h.state h.rest l)
+    next-held = subst (λ a. NextIs l.after (c + 1) (live_after a c)) (sym h.area_is) (next-status h.tokens h.state h.rest l)
 
 -- ---- one move
 
@@ -122,12 +122,12 @@ module _ {words bytes area : List ℕ} {c : ℕ} (m : Movable words bytes area c
   few : count_t words < 256
   few = omega (arith, terminals-small m.held)
 
-  abbrev words-of : List ℕ
-  words-of = encode m.held.tokens m.held.state ++ m.held.rest
+  abbrev words_of : List ℕ
+  words_of = encode m.held.tokens m.held.state ++ m.held.rest
 
   -- what is said of the state's words is said of the area
-  on-area : (P : List ℕ → Type 0) → P words-of → P area
-  on-area P p = subst P (sym m.held.area-is) p
+  on-area : (P : List ℕ → Type 0) → P words_of → P area
+  on-area P p = subst P (sym m.held.area_is) p
 
   -- what each function that writes asks
   pub can-push : (mark : ℕ) → mark ≤ 1 → Pushable area c mark
@@ -210,22 +210,22 @@ pub record Joining (words bytes area : List ℕ) (c d : ℕ) : Type 0 where
   pub live : Live held.state.chunks c
   pub next : NextLive live.after
   pub number_is : d ≡ next_number held.state live next
-  pub left-rests : at_rest live.chunk ≡ true
-  pub right-rests : at_rest next.chunk ≡ true
+  pub left_rests : at_rest live.chunk ≡ true
+  pub right_rests : at_rest next.chunk ≡ true
 
 module _ {words bytes area : List ℕ} {c d : ℕ} (m : Joining words bytes area c d) where
   pub can-join : Joinable area c d
   can-join =
-      subst (λ a. Joinable a c d) (sym m.held.area-is)
+      subst (λ a. Joinable a c d) (sym m.held.area_is)
       (subst (λ j. Joinable (encode m.held.tokens m.held.state ++ m.held.rest) c j) (sym m.number_is) (join-ready m.held.kept m.held.rest m.live m.next))
 
   -- the words that the join leaves are those of the state after it
-  pub joins-so : join c m.held.state ≡ became (after_join m.held.state m.live m.next)
-  joins-so = join-becomes m.held.state m.live m.next m.left-rests m.right-rests
+  pub joins_so : join c m.held.state ≡ became (after_join m.held.state m.live m.next)
+  joins_so = join-becomes m.held.state m.live m.next m.left_rests m.right_rests
 
   pub joined_words : join_words area c d ≡ encode m.held.tokens (after_join m.held.state m.live m.next) ++ m.held.rest
   joined_words =
-      ap (λ (a : List ℕ). join_words a c d) m.held.area-is
+      ap (λ (a : List ℕ). join_words a c d) m.held.area_is
       ∙ ap (λ (j : ℕ). join_words (encode m.held.tokens m.held.state ++ m.held.rest) c j) m.number_is
       ∙ join-law m.held.state m.live m.next m.held.tokens m.held.rest
 
@@ -234,7 +234,7 @@ module _ {words bytes area : List ℕ} {c d : ℕ} (m : Joining words bytes area
     tokens = m.held.tokens;
     state = after_join m.held.state m.live m.next;
     rest = m.held.rest;
-    area-is = joined_words;
+    area_is = joined_words;
     grammar = m.held.grammar;
-    kept = safe-turned words bytes m.held.grammar m.held.kept (by-join c joins-so);
+    kept = safe-turned words bytes m.held.grammar m.held.kept (by_join c joins_so);
   }

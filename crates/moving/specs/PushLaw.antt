@@ -21,7 +21,7 @@ use Rattle.layout.specs.Kept.{Kept}
 use Rattle.shape.specs.Encoded.{chunks-at}
 use Rattle.moving.specs.MoveWords.{head_of, marks_of, put_words, push_words, Pushable}
 use Rattle.moving.specs.AroundChunk.{finer_parts, around-finer, tick-law, listed-words, read-words, head-word, marks-word}
-use Rattle.moving.specs.AroundChunk.{next-size, next_last, from-word, number-within, few-moves, slots-within, ends-within}
+use Rattle.moving.specs.AroundChunk.{next-size, next_last, from-word, number-within, few-moves, slots-within, ends_within}
 
 -- a stack has no more marks than slots
 pub marks-few : (stack : List (Entry Span)) → marks stack ≤ stack_size stack
@@ -74,7 +74,7 @@ module _ (n : ℕ) (earlier : List (Option (Chunk Span))) (stack : List (Entry S
 
   module _ (c : ℕ) (number : length earlier ≡ c) where
     abbrev here : Live (state reader moves).chunks c
-    here = record { before = earlier; chunk = reader; after = later; number_is = number; chunks-are = refl }
+    here = record { before = earlier; chunk = reader; after = later; number_is = number; chunks_are = refl }
 
     -- the word where the next unread symbol starts
     abbrev at : ℕ
@@ -119,13 +119,13 @@ module _ {t N n : ℕ} {s : State Span} (k : Kept t N n s) (rest : List ℕ) {c 
       let head : head_of (encode n s ++ rest) c ≡ total l.before + stack_size l.chunk.stack = head-word n s rest l in
       let marked : marks_of (encode n s ++ rest) c ≡ marks l.chunk.stack = marks-word n s rest l in
       let long : slot_word (encode n s ++ rest) (head_of (encode n s ++ rest) c) 2 ≡ size x = next-size n s rest l x unread next in
-      let inside : total l.before + (stack_size l.chunk.stack + (size x + unread_size unread)) ≤ n + 2 = rw next at (ends-within k rest l) in
+      let inside : total l.before + (stack_size l.chunk.stack + (size x + unread_size unread)) ≤ n + 2 = rw next at (ends_within k rest l) in
       record {
         few = few-moves k rest;
         chunk = rw (chunks-at n s rest) (number-within n s rest l);
         slot = omega (arith, slots-within k rest);
-        head = omega (arith, k.few-tokens);
-        marks = omega (arith, k.few-tokens, marks-few l.chunk.stack);
+        head = omega (arith, k.few_tokens);
+        marks = omega (arith, k.few_tokens, marks-few l.chunk.stack);
         low = omega (arith, head, from-word n s rest l);
         some = omega (arith, long);
         last = rw long (next_last n s rest l x unread next);

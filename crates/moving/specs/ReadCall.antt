@@ -20,7 +20,7 @@ use Rattle.machine.specs.States.{State, ran, moving, run, start}
 use Rattle.machine.specs.TableOf.{table_of}
 use Rattle.layout.specs.Layout.{need, encode}
 use Rattle.matrix.specs.GrammarShape.{grammar_in_shape}
-use Rattle.start.specs.Start.{StartInput, grammar-broken, Startable, start_answer, started_area, start_area, starts-exactly}
+use Rattle.start.specs.Start.{StartInput, grammar_broken, Startable, start_answer, started_area, start_area, starts-exactly}
 use Rattle.shape.specs.Safe.{Safe, safe-start}
 use Rattle.moving.specs.Calls.{ran_area, run_call, run_area}
 use Rattle.moving.specs.OnWords.{run_is, leaves}
@@ -70,7 +70,7 @@ module _ (words bytes tokens area : List ℕ) where
     can-start = (starts-exactly words bytes tokens [] (length area)).0 (sym read-begins ∙ done)
 
     shape : grammar_in_shape words bytes ≡ true
-    shape = not-false _ (false-unless _ (λ e. can-start.in-shape 0 (grammar-broken (not-true _ e) refl)))
+    shape = not-false _ (false-unless _ (λ e. can-start.in-shape 0 (grammar_broken (not-true _ e) refl)))
 
     abbrev rest : List ℕ
     rest = drop (need (length tokens) 1) area
@@ -92,12 +92,12 @@ module _ (words bytes tokens area : List ℕ) where
 
     runs_here : Runnable words bytes (start_area words bytes tokens [] area) 0
     runs_here = record {
-      held = record { tokens = length tokens; state = start tokens []; rest = rest; area-is = begun; grammar = shape; kept = safe };
-      live = record { before = []; chunk = _; after = []; number_is = refl; chunks-are = refl };
+      held = record { tokens = length tokens; state = start tokens []; rest = rest; area_is = begun; grammar = shape; kept = safe };
+      live = record { before = []; chunk = _; after = []; number_is = refl; chunks_are = refl };
     }
 
     few : length tokens ≤ 16384
-    few = safe.few-tokens
+    few = safe.few_tokens
 
     moved_to : {made : ℕ} {area' : List ℕ} → RanWords words bytes (start_area words bytes tokens [] area) 0 (2 * length tokens + 2) made area'
         → area' ≡ read_area words bytes tokens area

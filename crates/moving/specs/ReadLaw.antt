@@ -27,7 +27,7 @@ use Rattle.machine.specs.TableOf.{relation_from, relation_at}
 use Rattle.machine.specs.Allowed.{HandleAbove, Live}
 use Rattle.layout.specs.Layout.{stack_size, encode}
 use Rattle.shape.specs.Encoded.{chunks-at}
-use Rattle.layout.specs.Kept.{AllInRange, in-range, Kept}
+use Rattle.layout.specs.Kept.{AllInRange, in_range, Kept}
 use Rattle.shape.specs.Tiling.{ranged-split}
 use Rattle.matrix.specs.GrammarShape.{rule_a}
 use Rattle.matrix.specs.WordsOfShape.{rule-a-exactly}
@@ -37,7 +37,7 @@ use Rattle.moving.specs.StackWords.{stacked}
 use Rattle.moving.specs.Readings.{told-ranged, told-upper, handle-below}
 use Rattle.moving.specs.MatchWords.{handle_words, match_words, Readable, Whole}
 use Rattle.moving.specs.Matches.{readable, whole-stack, handle-count, match-handle}
-use Rattle.moving.specs.AroundChunk.{stack-stands, number-within}
+use Rattle.moving.specs.AroundChunk.{stack_stands, number-within}
 use Rattle.moving.specs.KeptAround.{stack-ranged, unread-ranged}
 use Rattle.moving.specs.HandleSlots.{handle-splits, upper-stands}
 
@@ -64,12 +64,12 @@ top_within [] a r q = let z : ◌≡◌ {A = ℕ} 0 1 = cc in absurd (omega arit
 top_within (terminal_on mark b v ∷ stack) a r q = go (ranged-split (stack_symbols stack) (terminal_at b v ∷ []) r).1
   where
     go : {t N : ℕ} → AllInRange t N (terminal_at b v ∷ []) → a ≤ t
-    go (in-range h r) = let z : b ≡ a = cc in omega arith
+    go (in_range h r) = let z : b ≡ a = cc in omega arith
 top_within (nonterminal_on k v ∷ stack) a r q = top_within stack a (ranged-split (stack_symbols stack) (nonterminal_at k v ∷ []) r).0 q
 
 next-within : {t N : ℕ} {symbols : List (Unread Span)} (x : Unread Span) → AllInRange t N (x ∷ symbols) → word_of (symbol x) < 256 → word_of (symbol x) ≤ t
-next-within (terminal_at a v) (in-range h r) l = h
-next-within (nonterminal_at k v) (in-range h r) l = absurd (omega arith)
+next-within (terminal_at a v) (in_range h r) l = h
+next-within (nonterminal_at k v) (in_range h r) l = absurd (omega arith)
 
 module _ {t N n : ℕ} {s : State Span} (k : Kept t N n s) (rest : List ℕ) {c : ℕ} (l : Live s.chunks c) where
   -- the topmost terminal and the next unread one are the grammar's, or #
@@ -81,7 +81,7 @@ module _ {t N n : ℕ} {s : State Span} (k : Kept t N n s) (rest : List ℕ) {c 
 
   module _ (few : t < 256) where
     pub stack-holds : Holds (encode n s ++ rest) (from_of (encode n s ++ rest) c) (head_of (encode n s ++ rest) c) l.chunk.stack
-    stack-holds = record { stands = stack-stands n s rest l; told = told-ranged few l.chunk.stack (stack-ranged k l) }
+    stack-holds = record { stands = stack_stands n s rest l; told = told-ranged few l.chunk.stack (stack-ranged k l) }
 
     pub has-stack : HasStack (encode n s ++ rest) c
     has-stack = record { chunk = rw (chunks-at n s rest) (number-within n s rest l); stacked = stacked l.chunk.stack stack-holds }
@@ -95,7 +95,7 @@ module _ {t N n : ℕ} {s : State Span} (k : Kept t N n s) (rest : List ℕ) {c 
       pub handle-holds : Holds (encode n s ++ rest) (from_of (encode n s ++ rest) c + stack_size below) (head_of (encode n s ++ rest) c) handle
       handle-holds = record {
         stands = upper-stands handle below (slot_at (encode n s ++ rest) (from_of (encode n s ++ rest) c + stack_size below)) (omega arith)
-            (rw (handle-splits h) at (stack-stands n s rest l));
+            (rw (handle-splits h) at (stack_stands n s rest l));
         told = told-upper handle below (rw (handle-splits h) at (told-ranged few l.chunk.stack (stack-ranged k l)));
       }
 

@@ -4,15 +4,15 @@
 -- if there is one"; "Takes, no mark on the stack".
 -- Rests on ReadWords, on machine's Allowed and on layout's Kept and shape's Tiling.
 --
--- Main statements: told-ranged, told-upper, handle-below, no-marks.
+-- Main statements: told-ranged, told-upper, handle-below, no_marks.
 use Rattle.std.specs.Prelude.{◌≡◌, refl, List, [], ◌∷◌, ◌++◌, ℕ, ◌<◌}
 use Rattle.std.proofs.Common.{arith}
 use Rattle.language.specs.Trees.{Span}
 use Rattle.machine.specs.Entries.{terminal_at, nonterminal_at, Entry, terminal_on, nonterminal_on, stack_symbols}
-use Rattle.machine.specs.Allowed.{TopNonterminal, top-nonterminal, NoMark, empty-stack, over-unmarked, over-nonterminal, HandleAbove}
-use Rattle.machine.specs.Allowed.{from-nonterminal, from-mark, up-to-unmarked, up-to-nonterminal}
+use Rattle.machine.specs.Allowed.{TopNonterminal, top_nonterminal, NoMark, empty_stack, over_unmarked, over_nonterminal, HandleAbove}
+use Rattle.machine.specs.Allowed.{from_nonterminal, from_mark, up_to_unmarked, up_to_nonterminal}
 use Rattle.layout.specs.Layout.{marks}
-use Rattle.layout.specs.Kept.{AllInRange, in-range}
+use Rattle.layout.specs.Kept.{AllInRange, in_range}
 use Rattle.shape.specs.Tiling.{ranged-split}
 use Rattle.moving.specs.ReadWords.{Told, below_mark, handle_below}
 
@@ -23,7 +23,7 @@ told-ranged few (terminal_on mark a v ∷ stack) r =
     let k = ranged-split (stack_symbols stack) (terminal_at a v ∷ []) r in (top k.1 few, told-ranged few stack k.0)
   where
     top : {t N : ℕ} → AllInRange t N (terminal_at a v ∷ []) → t < 256 → a < 256
-    top (in-range h r) few = omega arith
+    top (in_range h r) few = omega arith
 told-ranged few (nonterminal_on k v ∷ stack) r = told-ranged few stack (ranged-split (stack_symbols stack) (nonterminal_at k v ∷ []) r).0
 
 -- the upper part of a stack
@@ -37,15 +37,15 @@ told-upper (nonterminal_on k v ∷ upper) below t = told-upper upper below t
 below-is : (below : List (Entry Span)) → (TopNonterminal below → ⊥) → below_mark below ≡ below
 below-is [] h = refl
 below-is (terminal_on mark b w ∷ below) h = refl
-below-is (nonterminal_on k w ∷ below) h = absurd (h top-nonterminal)
+below-is (nonterminal_on k w ∷ below) h = absurd (h top_nonterminal)
 
 pub handle-below : {stack handle below : List (Entry Span)} → HandleAbove stack handle below → handle_below stack ≡ below
-handle-below from-nonterminal = refl
-handle-below (from-mark {below = below} h) = below-is below h
-handle-below (up-to-unmarked h) = handle-below h
-handle-below (up-to-nonterminal h) = handle-below h
+handle-below from_nonterminal = refl
+handle-below (from_mark {below = below} h) = below-is below h
+handle-below (up_to_unmarked h) = handle-below h
+handle-below (up_to_nonterminal h) = handle-below h
 
-pub no-marks : {stack : List (Entry Span)} → NoMark stack → marks stack ≡ 0
-no-marks empty-stack = refl
-no-marks (over-unmarked n) = omega (arith, no-marks n)
-no-marks (over-nonterminal n) = omega (arith, no-marks n)
+pub no_marks : {stack : List (Entry Span)} → NoMark stack → marks stack ≡ 0
+no_marks empty_stack = refl
+no_marks (over_unmarked n) = omega (arith, no_marks n)
+no_marks (over_nonterminal n) = omega (arith, no_marks n)

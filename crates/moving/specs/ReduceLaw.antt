@@ -28,8 +28,8 @@ use Rattle.shape.specs.Encoded.{tokens-at, chunks-at, count_at}
 use Rattle.moving.specs.MoveWords.{head_of, slot_at, Stands, cleared_words, laid_words, noted_words, replaced_words, reduce_words, Reducible}
 use Rattle.moving.specs.BlockWords.{laid}
 use Rattle.moving.specs.HandleSlots.{stack-words, stack-slots, stack-marks, handle-splits, handle-marks, handle-covers, upper-stands, reductions-fit}
-use Rattle.moving.specs.AroundChunk.{from-word, made-within, slots-count, stack-stands, finer_parts, around-finer, tick-law, listed-words}
-use Rattle.moving.specs.AroundChunk.{made-words, head-word, marks-word, few-moves, ends-within, number-within}
+use Rattle.moving.specs.AroundChunk.{from-word, made-within, slots-count, stack_stands, finer_parts, around-finer, tick-law, listed-words}
+use Rattle.moving.specs.AroundChunk.{made-words, head-word, marks-word, few-moves, ends_within, number-within}
 
 -- ---- parts of the words
 
@@ -125,7 +125,7 @@ module _ (n : ℕ) (earlier : List (Option (Chunk Span))) (handle below : List (
 
   module _ (c : ℕ) (number : length earlier ≡ c) (first : v.first ≡ from - 1) (after : v.after ≡ head - 1) where
     abbrev here : Live (state reader reductions moves).chunks c
-    here = record { before = earlier; chunk = reader; after = later; number_is = number; chunks-are = refl }
+    here = record { before = earlier; chunk = reader; after = later; number_is = number; chunks_are = refl }
 
     abbrev base : ℕ
     base = 5 + 5 * (length earlier + suc (length later))
@@ -212,7 +212,7 @@ module _ {t N n : ℕ} {s : State Span} (k : Kept t N n s) (rest : List ℕ) {c 
       (slot_at (encode n s ++ rest) (head_of (encode n s ++ rest) c)) handle
   handle-stands =
       upper-stands handle below (slot_at (encode n s ++ rest) (total l.before + stack_size below)) (omega (arith, from-word n s rest l))
-      (rw (handle-splits h) at (stack-stands n s rest l))
+      (rw (handle-splits h) at (stack_stands n s rest l))
 
   pub reduce-ready : Reducible (encode n s ++ rest) c (total l.before + stack_size below)
   reduce-ready =
@@ -225,6 +225,6 @@ module _ {t N n : ℕ} {s : State Span} (k : Kept t N n s) (rest : List ℕ) {c 
         some = omega (arith, q.covers);
         marked = rw (marks-word n s rest l) (omega (arith, ap marks (handle-splits h), stack-marks handle below, handle-marks h));
         room = record { made = rw (count_at n s rest, tokens-at n s rest) (reductions-fit k l h); room = made-within k rest };
-        top = rw (tokens-at n s rest) (omega (arith, ends-within k rest l));
+        top = rw (tokens-at n s rest) (omega (arith, ends_within k rest l));
         handle = record { stack = handle; stands = handle-stands };
       }

@@ -20,12 +20,12 @@ use Rattle.language.specs.Trees.{Span}
 use Rattle.language.specs.Words.{count_t, count_n}
 use Rattle.machine.specs.Moves.{Table}
 use Rattle.machine.specs.States.{State, Called, refused, became, Ran, refused_run, ran, step, moving, run}
-use Rattle.machine.specs.Schedules.{by-step}
+use Rattle.machine.specs.Schedules.{by_step}
 use Rattle.machine.specs.TableOf.{table_of}
 use Rattle.machine.specs.Allowed.{Live}
-use Rattle.machine.specs.AllowedExactly.{StepView, no-such-chunk, was-at-rest, steps-so}
+use Rattle.machine.specs.AllowedExactly.{StepView, no_such_chunk, was_at_rest, steps_so}
 use Rattle.machine.proofs.AllowedExactly.{rests-to, step-view}
-use Rattle.machine.specs.GivenExactly.{RunView, run-no-chunk-so, run-at-rest-so, runs_so}
+use Rattle.machine.specs.GivenExactly.{RunView, run_no_chunk_so, run_at_rest_so, runs_so}
 use Rattle.machine.proofs.GivenExactly.{step-at-rest, run-view, run-no-chunk, run-at-rest}
 use Rattle.machine.proofs.Counts.{run-moving, moving-step, moving-rests}
 use Rattle.layout.specs.Layout.{encode, decode, slots_at}
@@ -37,7 +37,7 @@ use Rattle.moving.specs.ReadWords.{HasStack}
 use Rattle.moving.specs.ReadLaw.{has-stack}
 use Rattle.moving.specs.OneMove.{Held, Movable, terminals-small, held-live, live-stepped, moves_so}
 use Rattle.moving.specs.Moved.{Moved, live_in, rests_in, live-status}
-use Rattle.moving.specs.CallLaws.{there, table-there, the-live, none-live, at-rest-there, movable}
+use Rattle.moving.specs.CallLaws.{there, table-there, the_live, none-live, at-rest-there, movable}
 use Rattle.moving.specs.Calls.{called_answer, called_area, step_call, step_answer, step_area, ran_answer, ran_area, run_call, run_answer, run_area}
 use Rattle.moving.specs.OnWords.{run-broken, run-in-shape}
 
@@ -49,7 +49,7 @@ pub record Runnable (words bytes area : List ℕ) (c : ℕ) : Type 0 where
 -- the chunk's stack stands there
 pub runnable-stack : {words bytes area : List ℕ} {c : ℕ} → Runnable words bytes area c → HasStack area c
 runnable-stack {c = c} m =
-    subst (λ (a : List ℕ). HasStack a c) (sym m.held.area-is) (has-stack m.held.kept m.held.rest m.live (omega (arith, terminals-small m.held)))
+    subst (λ (a : List ℕ). HasStack a c) (sym m.held.area_is) (has-stack m.held.kept m.held.rest m.live (omega (arith, terminals-small m.held)))
 
 -- the words of the row after at most `budget` moves of chunk c, of which `made` were made
 pub record RanSo (words bytes : List ℕ) (n : ℕ) (s : State Span) (rest : List ℕ) (c budget made : ℕ) (area : List ℕ) : Type 0 where
@@ -77,35 +77,35 @@ module _ {words bytes old : List ℕ} {c : ℕ} (m : Runnable words bytes old c)
     now = m.held.state;
     kept = m.held.kept;
     live = m.live;
-    are = m.held.area-is;
+    are = m.held.area_is;
     within = omega arith;
     goes_on = let e : budget ≡ budget - 0 = omega arith in ap (λ (b : ℕ). moving (table_of words bytes) c b 0 m.held.state) e;
   }
 
 module _ {words bytes old : List ℕ} {c : ℕ} {m : Runnable words bytes old c} {budget made : ℕ} {area : List ℕ} (u : Underway words bytes m budget made area) where
-  abbrev holds-now : Held words bytes area
-  holds-now = record { tokens = m.held.tokens; state = u.now; rest = m.held.rest; area-is = u.are; grammar = m.held.grammar; kept = u.kept }
+  abbrev holds_now : Held words bytes area
+  holds_now = record { tokens = m.held.tokens; state = u.now; rest = m.held.rest; area_is = u.are; grammar = m.held.grammar; kept = u.kept }
 
   still-live : live_in area c ≡ true
-  still-live = let p = held-live holds-now u.live in sym (live-status area c p.0) ∙ lt-ltb 0 _ p.1
+  still-live = let p = held-live holds_now u.live in sym (live-status area c p.0) ∙ lt-ltb 0 _ p.1
 
   -- its row of the table is there
   pub underway-listed : (c < get_or area 1 0) × (slots_at area ≤ length area)
-  underway-listed = ((held-live holds-now u.live).0, (table-there holds-now).1)
+  underway-listed = ((held-live holds_now u.live).0, (table-there holds_now).1)
 
   pub underway-movable : rests_in area c ≡ false → Movable words bytes area c
-  underway-movable r = movable holds-now still-live r
+  underway-movable r = movable holds_now still-live r
 
   -- one move more
   pub underway-more : made < budget → rests_in area c ≡ false → {area' : List ℕ} → Moved words bytes area c area' → Underway words bytes m budget (made + 1) area'
   underway-more l r {area'} v =
-      let k = movable holds-now still-live r in
+      let k = movable holds_now still-live r in
       let s : Stepped words bytes m.held.tokens u.now m.held.rest c area' = moves_so k (v.found k) in
       let e : budget - made ≡ suc (budget - (made + 1)) = omega arith in
       record {
         now = s.then;
-        kept = safe-turned words bytes m.held.grammar u.kept (by-step c s.steps);
-        live = live-stepped holds-now s;
+        kept = safe-turned words bytes m.held.grammar u.kept (by_step c s.steps);
+        live = live-stepped holds_now s;
         are = s.are;
         within = omega arith;
         goes_on =
@@ -117,7 +117,7 @@ module _ {words bytes old : List ℕ} {c : ℕ} {m : Runnable words bytes old c}
   pub underway-rests : rests_in area c ≡ true → RanSo words bytes m.held.tokens m.held.state m.held.rest c budget made area
   underway-rests r = record {
     then = u.now;
-    ends = u.goes_on ∙ moving-rests (table_of words bytes) c u.now (at-rest-there holds-now still-live r) (budget - made) made;
+    ends = u.goes_on ∙ moving-rests (table_of words bytes) c u.now (at-rest-there holds_now still-live r) (budget - made) made;
     are = u.are;
   }
 
@@ -155,14 +155,14 @@ module _ (words bytes area : List ℕ) (c budget : ℕ) where
     run-rests e r = by-run (by_state ∙ (run-at-rest (table_of words bytes) c budget (decode area)).1 (at-rest-there stands e r))
 
     pub runnable : live_in area c ≡ true → Runnable words bytes area c
-    runnable e = record { held = stands; live = the-live stands e }
+    runnable e = record { held = stands; live = the_live stands e }
 
     -- the moves of a chunk that is not at rest are its run
     pub run_moved : (e : live_in area c ≡ true) (r : rests_in area c ≡ false) {made : ℕ} {area' : List ℕ} → RanWords words bytes area c budget made area'
         → (answer.Moves made ≡ run_answer words bytes area c budget) × (area' ≡ run_area words bytes area c budget)
     run_moved e r v =
         let k = movable stands e r in
-        let s = v.found (record { held = stands; live = the-live stands e }) in
+        let s = v.found (record { held = stands; live = the_live stands e }) in
         let z = by-run (by_state ∙ run-moving (table_of words bytes) c (decode area) k.live (λ i. false≢true (sym (runs_on k.runs) ∙ rests-to i)) budget ∙ s.ends) in
         (z.0, s.are ∙ z.1)
 
@@ -178,14 +178,14 @@ one-step : {Value : Type 0} (table : Table Value) (c : ℕ) (s : State Value) �
 one-step {Value} table c s = by-view refl (step-view table c s)
   where
     moves : {s' : State Value} {answer : Ran Value} → step table c s ≡ became s' → Live s.chunks c → RunView table c 1 s answer → answer ≡ ran 1 s'
-    moves q l (run-no-chunk-so h) = absurd (h l)
-    moves q l (run-at-rest-so h) = let e = sym q ∙ (step-at-rest table c s).1 h in let z : ◌≡◌ {A = ℕ} 0 1 = cc in absurd (omega arith)
+    moves q l (run_no_chunk_so h) = absurd (h l)
+    moves q l (run_at_rest_so h) = let e = sym q ∙ (step-at-rest table c s).1 h in let z : ◌≡◌ {A = ℕ} 0 1 = cc in absurd (omega arith)
     moves q l (runs_so m h e) = sym e ∙ moving-step table c s q 0 0
 
     by-view : {call : Called Value} → step table c s ≡ call → StepView table c s call → run table c 1 s ≡ once call
-    by-view q (no-such-chunk h) = (run-no-chunk table c 1 s).1 h
-    by-view q (was-at-rest l r) = (run-at-rest table c 1 s).1 (record { live = l; rests = r })
-    by-view q (steps-so m) = moves q m.live (run-view table c 1 s)
+    by-view q (no_such_chunk h) = (run-no-chunk table c 1 s).1 h
+    by-view q (was_at_rest l r) = (run-at-rest table c 1 s).1 (record { live = l; rests = r })
+    by-view q (steps_so m) = moves q m.live (run-view table c 1 s)
 
 -- the answer of a step by that of a run of one
 abbrev pub step_of : RunAnswer → Answer

@@ -1,7 +1,7 @@
 -- What a move reads in the lent words, by the hand, while a run is underway: it can be read, and is what stands in the area with the hand's words put in (`whole`).
 -- Rests on Settled and SameSlots.
 --
--- Main statements: hand-taking; hand-next, hand-stack, hand-below, hand-match (what can be read); of-next, of-nonterminal, of-top, of-axiom, of-handle, of-rule (what was read).
+-- Main statements: hand-taking; hand-next, hand-stack, hand-below, hand-match (what can be read); of-next, of_nonterminal, of-top, of_axiom, of-handle, of-rule (what was read).
 use Rattle.std.specs.Prelude.{◌≡◌, Bool, List, ℕ, ◌+◌, ◌<◌, ◌≤◌, length}
 use Rattle.std.proofs.Common.{sym, ap, ◌∙◌, arith}
 use Rattle.layout.specs.Layout.{slots_at, slot_word}
@@ -38,14 +38,14 @@ module _ {area whole : List ℕ} {c : ℕ} {h : Hand} (k : Holding area c h) (t 
   pub of-next : {b : ℕ} → b ≡ slot_word area h.head 0 → b ≡ slot_word whole (head_of whole c) 0
   of-next e = e ∙ sym (slot_same same h.head 0) ∙ ap (λ (s : ℕ). slot_word whole s 0) a.head
 
-  pub of-nonterminal : {on : Bool} → NonterminalOnTop area h.from h.head on → NonterminalOnTop whole (from_of whole c) (head_of whole c) on
-  of-nonterminal r = rw (a.from, a.head) at (nonterminal-same (same_back same) r)
+  pub of_nonterminal : {on : Bool} → NonterminalOnTop area h.from h.head on → NonterminalOnTop whole (from_of whole c) (head_of whole c) on
+  of_nonterminal r = rw (a.from, a.head) at (nonterminal-same (same_back same) r)
 
   pub of-top : {top : ℕ} → TopIs area h.from h.head top → TopIs whole (from_of whole c) (head_of whole c) top
   of-top r = rw (a.from, a.head) at (top-same (same_back same) r)
 
-  pub of-axiom : {axioms : ℕ} {is : Bool} → EndAndAxiom area h.from h.head axioms is → EndAndAxiom whole (from_of whole c) (head_of whole c) axioms is
-  of-axiom r = rw (a.from, a.head) at (axiom-same (same_back same) r)
+  pub of_axiom : {axioms : ℕ} {is : Bool} → EndAndAxiom area h.from h.head axioms is → EndAndAxiom whole (from_of whole c) (head_of whole c) axioms is
+  of_axiom r = rw (a.from, a.head) at (axiom-same (same_back same) r)
 
   pub of-handle : {start count : ℕ} → HandleIs area h.from h.head start count → HandleIs whole (from_of whole c) (head_of whole c) start count
   of-handle r = rw (a.from, a.head) at (handle-is-same (same_back same) r)
@@ -71,4 +71,4 @@ module _ {area whole : List ℕ} {c : ℕ} {h : Hand} (k : Holding area c h) (t 
 
   -- "Takes, a marked terminal on the stack"
   pub hand-taking : {words bytes : List ℕ} → Takes words bytes whole c → (h.marks ≡ 0 → ⊥) → Taking words bytes whole c
-  hand-taking over n = record { takes-over = over; marked = omega (arith, n, a.marks) }
+  hand-taking over n = record { takes_over = over; marked = omega (arith, n, a.marks) }

@@ -9,7 +9,7 @@ use Rattle.language.specs.Trees.{Span}
 use Rattle.language.specs.Words.{count_t, count_n}
 use Rattle.machine.specs.States.{State, Called, refused, became, Ran, refused_run, ran, step, join, run}
 use Rattle.machine.specs.TableOf.{table_of}
-use Rattle.machine.specs.Schedules.{Turned, by-step, by-join}
+use Rattle.machine.specs.Schedules.{Turned, by_step, by_join}
 use Rattle.layout.specs.Layout.{decode}
 use Rattle.layout.specs.Kept.{Kept}
 use Rattle.area.specs.Shape.{in_shape}
@@ -32,11 +32,11 @@ module _ (words bytes area : List ℕ) (low : get_or area 2 0 < 65536) (shape : 
 
   pub step_keeps : in_shape words bytes (step_area words bytes area c) ≡ true
   unfolding step_area step_call
-  step_keeps = rw (shape, step_area, step_call) (called (step (table_of words bytes) c (decode area)) (λ s q. by-step c q))
+  step_keeps = rw (shape, step_area, step_call) (called (step (table_of words bytes) c (decode area)) (λ s q. by_step c q))
 
   pub join-keeps : in_shape words bytes (join_area words bytes area c) ≡ true
   unfolding join_area join_call
-  join-keeps = rw (shape, join_area, join_call) (called (join c (decode area)) (λ s q. by-join c q))
+  join-keeps = rw (shape, join_area, join_call) (called (join c (decode area)) (λ s q. by_join c q))
 
   after_run : (budget : ℕ) (answer : Ran Span) → run (table_of words bytes) c budget (decode area) ≡ answer → in_shape words bytes (ran_area answer area) ≡ true
   after_run budget (refused_run why) q = shape

@@ -2,7 +2,7 @@
 -- docs/AREA.md: a stack stands bottom first, each symbol one block.
 -- Rests on MoveWords, ReadWords and BlockWords, and on layout's Lengths.
 --
--- Main statements: within-area, stands_alike, top-symbol, top-mark, top-front, top-size, top_start, under, top-cleared; the same on
+-- Main statements: within_area, stands_alike, top-symbol, top-mark, top-front, top-size, top_start, under, top-cleared; the same on
 -- slots: stacked, slot-symbol, slot-mark, slot-start, slot-ends, slot-under.
 use Rattle.std.specs.Prelude.{◌≡◌, refl, List, ◌∷◌, ◌++◌, ℕ, ◌+◌, ◌*◌, ◌-◌, ◌<◌, ◌≤◌, length, get_or, take, drop}
 use Rattle.std.proofs.Common.{sym, ap, ◌∙◌, append_assoc, arith, length-append, length-drop, take-append-drop, length-take-le, take_at, drop_at, get_or-take, get_or-drop, ext_get_or}
@@ -15,8 +15,8 @@ use Rattle.moving.specs.MoveWords.{slot_at, Stands, start_of, cleared_one, Tagge
 use Rattle.moving.specs.ReadWords.{Told, Holds, start_slot, EndsBlock, Stacked}
 use Rattle.moving.specs.BlockWords.{first_word, mark-word, size_word, last_word, cleared-one}
 
-pub within-area : {area : List ℕ} {i j : ℕ} (stack : List (Entry Span)) → Stands area i j stack → j ≤ length area
-within-area stack h =
+pub within_area : {area : List ℕ} {i j : ℕ} (stack : List (Entry Span)) → Stands area i j stack → j ≤ length area
+within_area stack h =
     omega (
       arith,
       h.start,
@@ -31,7 +31,7 @@ within-area stack h =
 pub stands_alike : {area other : List ℕ} {i j : ℕ} {stack : List (Entry Span)} → length area ≡ length other
     → ((k : ℕ) → i ≤ k → k < j → get_or area k 0 ≡ get_or other k 0) → Stands area i j stack → Stands other i j stack
 stands_alike {area} {other} {i} {j} {stack} long same h =
-    let room : j ≤ length area = within-area stack h in
+    let room : j ≤ length area = within_area stack h in
     let there : (l : List ℕ) → length l ≡ length area → length (take (j - i) (drop i l)) ≡ j - i =
     λ l e. length-take-le (j - i) (drop i l) (omega (arith, length-drop i l)) in
     let words : take (j - i) (drop i area) ≡ stack_words stack =
@@ -87,7 +87,7 @@ module _ {area : List ℕ} {i j : ℕ} (x : Entry Span) (stack : List (Entry Spa
   top_start = omega (arith, top-size, starts, ends)
 
   pub top-tagged : Tagged area j
-  top-tagged = record { some = omega (arith, top-size); fits = omega (arith, top-size, ends); within = within-area (x ∷ stack) h }
+  top-tagged = record { some = omega (arith, top-size); fits = omega (arith, top-size, ends); within = within_area (x ∷ stack) h }
 
   -- what stands under it
   pub under : Stands area i (i + 4 * stack_size stack) stack
@@ -100,7 +100,7 @@ module _ {area : List ℕ} {i j : ℕ} (x : Entry Span) (stack : List (Entry Spa
 -- ---- on slots
 
 pub stacked : {area : List ℕ} {s e : ℕ} (stack : List (Entry Span)) → Holds area s e stack → Stacked area s e
-stacked stack h = record { stack = stack; holds = h; room = within-area stack h.stands }
+stacked stack h = record { stack = stack; holds = h; room = within_area stack h.stands }
 
 pub told_under : (x : Entry Span) (stack : List (Entry Span)) → Told (x ∷ stack) → Told stack
 told_under (terminal_on mark a v) stack t = t.1
@@ -117,7 +117,7 @@ module _ {area : List ℕ} {s e : ℕ} {x : Entry Span} {stack : List (Entry Spa
   slot-ends = record {
     some = omega (arith, top-size x stack h.stands);
     fits = omega (arith, top-size x stack h.stands, h.stands.stop);
-    within = within-area (x ∷ stack) h.stands;
+    within = within_area (x ∷ stack) h.stands;
   }
 
   pub slot-symbol : slot_word area (start_slot area e) 0 ≡ word_of (symbol (unmarked x))

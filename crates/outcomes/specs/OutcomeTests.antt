@@ -67,18 +67,18 @@ pub passed_on : {o p : Outcome} {answer : ReportAnswer} {last : List ℕ} (out :
 passed_on out e a = rw e a
 
 module _ (area out : List ℕ) {o : Outcome} (e : o ≡ words_report area) where
-  count-is : length (put_in_order (made area)) ≡ get_or area 4 0
-  count-is = sorted-length (made area) ∙ entries-length (get_or area 4 0) area (made_at_word area)
+  count_is : length (put_in_order (made area)) ≡ get_or area 4 0
+  count_is = sorted-length (made area) ∙ entries-length (get_or area 4 0) area (made_at_word area)
 
   pub no_room : length out < 3 * get_or area 4 0 → Answered o out (Refused (NoRoom (3 * get_or area 4 0))) out
   unfolding words_report
   no_room h =
-      let t : ltb (length out) (3 * length (put_in_order (made area))) ≡ true = lt-ltb (length out) (3 * length (put_in_order (made area))) (omega (arith, count-is)) in
-      rw (e, t, outcome_answer, outcome_out, count-is) (refl, refl)
+      let t : ltb (length out) (3 * length (put_in_order (made area))) ≡ true = lt-ltb (length out) (3 * length (put_in_order (made area))) (omega (arith, count_is)) in
+      rw (e, t, outcome_answer, outcome_out, count_is) (refl, refl)
 
   pub room : {last : List ℕ} {count : ℕ} → 3 * get_or area 4 0 ≤ length out → count ≡ moves area
       → last ≡ report_words (put_in_order (made area)) ++ drop (3 * get_or area 4 0) out → Answered o out (Report (get_or area 4 0) count) last
   unfolding words_report
   room h m l =
-      let t : ltb (length out) (3 * length (put_in_order (made area))) ≡ false = le-ltb (length out) (3 * length (put_in_order (made area))) (omega (arith, count-is)) in
-      rw (e, t, outcome_answer, outcome_out, count-is, m, l) (refl, refl)
+      let t : ltb (length out) (3 * length (put_in_order (made area))) ≡ false = le-ltb (length out) (3 * length (put_in_order (made area))) (omega (arith, count_is)) in
+      rw (e, t, outcome_answer, outcome_out, count_is, m, l) (refl, refl)

@@ -22,7 +22,7 @@ use Rattle.machine.specs.Chunks.{Status, running, stuck, Chunk}
 use Rattle.machine.specs.States.{State, Outcome, refused_row, reported, live, outcome_of, outcome_of_live, outcome}
 use Rattle.machine.specs.Starts.{symbols_along}
 use Rattle.layout.specs.Layout.{need, size, stack_size, unread_size, chunk_size, status_word, row, rows, encode, made_at_word, span_at, read_made, moves_in, decode}
-use Rattle.layout.specs.Kept.{Lies, first-end, last_end, within, Tiles, tile, FirstLive, first_live, not_stuck, stuck-fine, AllStuckFine, and-chunk}
+use Rattle.layout.specs.Kept.{Lies, first_end, last_end, within, Tiles, tile, FirstLive, first_live, not_stuck, stuck_fine, AllStuckFine, and_chunk}
 use Rattle.layout.specs.Lengths.{stack-size, tiles-end, encode-length, few-reductions}
 use Rattle.shape.specs.Tiling.{tiles-split}
 use Rattle.shape.specs.Walks.{status-word}
@@ -50,8 +50,8 @@ words_outcome area =
 
 -- what is read lies within the area; there are at most 16,384 reductions; chunk 0 has something on its stack
 pub record Reportable (area : List ℕ) : Type 0 where
-  pub some-chunk : 1 ≤ get_or area 1 0
-  pub within-area : made_at_word area + 3 * get_or area 4 0 ≤ length area
+  pub some_chunk : 1 ≤ get_or area 1 0
+  pub within_area : made_at_word area + 3 * get_or area 4 0 ≤ length area
   pub few : get_or area 4 0 ≤ 16384
   pub on_stack : 1 ≤ get_or area 7 0
 
@@ -100,7 +100,7 @@ span-first (terminal (suc a)) s k = refl
 span-first (nonterminal j) s k = refl
 
 lies-first : {n s : ℕ} {x : Unread Span} → Lies n s x → (value_of x).first ≡ s - 1
-lies-first {s = s} {x = x} (first-end q e v) = ap (λ (p : Span). p.first) v ∙ span-first (symbol x) s (size x)
+lies-first {s = s} {x = x} (first_end q e v) = ap (λ (p : Span). p.first) v ∙ span-first (symbol x) s (size x)
 lies-first {s = s} {x = x} (last_end q e v) = ap (λ (p : Span). p.first) v ∙ span-first (symbol x) s (size x)
 lies-first {s = s} {x = x} (within l h e v) = ap (λ (p : Span). p.first) v ∙ span-first (symbol x) s (size x)
 
@@ -141,8 +141,8 @@ module _ (head : ℕ) (reductions : List (Reduction Span)) (moves : ℕ) where
 -- ---- the whole
 
 unread-unless : {c : Chunk Span} {chunks : List (Chunk Span)} → AllStuckFine (c ∷ chunks) → c.unread ≡ [] → c.status ≡ running
-unread-unless (and-chunk (not_stuck e) f) q = e
-unread-unless (and-chunk (stuck-fine h m) f) q = absurd (h q)
+unread-unless (and_chunk (not_stuck e) f) q = e
+unread-unless (and_chunk (stuck_fine h m) f) q = absurd (h q)
 
 some_size : (stack : List (Entry Span)) → 0 < length stack → 1 ≤ stack_size stack
 some_size [] h = absurd (omega arith)
@@ -162,7 +162,7 @@ module _ {t N : ℕ} (area : List ℕ) where
       let k = h.kept in
       let after : List ℕ = from_slots (get_or area 0 0) (record { chunks = chunks; reductions = reductions; moves = moves }) (drop (need (get_or area 0 0) (get_or area 1 0)) area) in
       let d = table_of (record { chunks = chunks; reductions = reductions; moves = moves }) h in
-      let e : get_or area 1 0 - 1 ≡ length others = omega (arith, h.chunks-are) in
+      let e : get_or area 1 0 - 1 ≡ length others = omega (arith, h.chunks_are) in
       let next : (b : Unread Span) (rest : List (Unread Span)) → c.unread ≡ b ∷ rest → (value_of b).first ≡ stack_size c.stack - 1 =
       λ b rest q. next-first c.stack b (rest ++ symbols_along (live others)) (rw q at k.tiles) in
       rw (
@@ -172,7 +172,7 @@ module _ {t N : ℕ} (area : List ℕ) where
         head_at area c others after d,
         status-at area c others after d,
         end-at area c others after d,
-        one-outcome (stack_size c.stack) reductions moves c.status c.unread (unread-unless k.stuck-fine) next,
+        one-outcome (stack_size c.stack) reductions moves c.status c.unread (unread-unless k.stuck_fine) next,
       )
 
   pub outcome-words : HoldsState t N area (decode area) → outcome (decode area) ≡ words_outcome area
@@ -188,9 +188,9 @@ module _ {t N : ℕ} (area : List ℕ) where
       let made : get_or area 4 0 ≡ length reductions = ap (λ l. get_or l 4 0) h.is ∙ count_at n s rest in
       let all : length area ≡ need n (length chunks) + length rest = ap length h.is ∙ length-append (encode n s) rest ∙ ap (λ k. k + length rest) (encode-length h.kept) in
       record {
-        some-chunk = omega (arith, h.chunks-are);
-        within-area = omega (arith, h.chunks-are, few-reductions h.kept);
-        few = omega (arith, few-reductions h.kept, h.kept.few-tokens);
+        some_chunk = omega (arith, h.chunks_are);
+        within_area = omega (arith, h.chunks_are, few-reductions h.kept);
+        few = omega (arith, few-reductions h.kept, h.kept.few_tokens);
         on_stack = omega (arith, head_at area c others (from_slots n s rest) (table_of s h), some_size c.stack l);
       }
 

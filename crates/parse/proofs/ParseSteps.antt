@@ -21,4 +21,4 @@ module _ {area : List ℕ} (f : Finished area) where
       let at : 18 + 4 * get_or area 0 0 ≡ made_at_word area = omega (arith, f.one_chunk) in
       e ∙ ap (λ i. take (3 * get_or area 4 0) (take (length area - i) (drop i area)) ++ drop (3 * get_or area 4 0) out) at
       ∙ ap (λ w. w ++ drop (3 * get_or area 4 0) out)
-      (entries-part (get_or area 4 0) area (made_at_word area) f.readable.within-area ∙ ap report_words (sym (f.ordered h)))
+      (entries-part (get_or area 4 0) area (made_at_word area) f.readable.within_area ∙ ap report_words (sym (f.ordered h)))

@@ -27,7 +27,7 @@ use Rattle.results.specs.UncutRow.{Verdict, accepted, refused, first-refusal-num
 use Rattle.layout.specs.Layout.{need}
 use Rattle.matrix.specs.EndMarkOfShape.{own-shape}
 use Rattle.start.specs.StartKept.{no_end}
-use Rattle.start.specs.Start.{StartInput, GrammarBroken, grammar-broken, NoTokens, TooMany, WrongToken, WrongCut, too-many-cuts, cut-above, cut_below}
+use Rattle.start.specs.Start.{StartInput, GrammarBroken, grammar_broken, NoTokens, TooMany, WrongToken, WrongCut, too_many_cuts, cut_above, cut_below}
 use Rattle.start.specs.Start.{NoRoomForRow, no_room, start_answer, Startable, start-room-given, starts-exactly}
 use Rattle.parse.specs.ParseCall.{parse_outcome, then_start, parse_begun, parsed_answer, parse_answer}
 use Rattle.parse.specs.ParseLaws.{budget, outcome-run}
@@ -39,20 +39,20 @@ lent words tokens room = record { words = words; matrix = matrix_of (grammar_of 
 -- 1 to 9 pass: the words are accepted (1 to 6), there are tokens, at most 16,384 of them, each in 1..T
 pub record Checked (words tokens : List ℕ) (room : ℕ) : Type 0 where
   pub loads : Accepted words
-  pub some-token : Nowhere (NoTokens (lent words tokens room))
-  pub few-tokens : Nowhere (TooMany (lent words tokens room))
-  pub right-tokens : Nowhere (WrongToken (lent words tokens room))
+  pub some_token : Nowhere (NoTokens (lent words tokens room))
+  pub few_tokens : Nowhere (TooMany (lent words tokens room))
+  pub right_tokens : Nowhere (WrongToken (lent words tokens room))
 
 -- 11: 1 to 9 pass and the area is shorter than its formula; or it is not, and there is a report for which the run is too short
 pub data ParseNoRoom (words tokens : List ℕ) (room report_room v : ℕ) : Type 0 where
-  for-area : Checked words tokens room → room < need (length tokens) 1 → v ≡ need (length tokens) 1 → ParseNoRoom words tokens room report_room v
-  for-report : Checked words tokens room → need (length tokens) 1 ≤ room → NoRoomForReport (parse_outcome words tokens) report_room v
+  for_area : Checked words tokens room → room < need (length tokens) 1 → v ≡ need (length tokens) 1 → ParseNoRoom words tokens room report_room v
+  for_report : Checked words tokens room → need (length tokens) 1 ≤ room → NoRoomForReport (parse_outcome words tokens) report_room v
       → ParseNoRoom words tokens room report_room v
 
 module _ (words tokens : List ℕ) (room : ℕ) where
   module _ (a : Accepted words) where
     not-broken : Nowhere (GrammarBroken (lent words tokens room))
-    not-broken v (grammar-broken f q) = true≢false (sym (own-shape a) ∙ f)
+    not-broken v (grammar_broken f q) = true≢false (sym (own-shape a) ∙ f)
 
     loaded : load_answer words 4096 ≡ Done
     loaded = (accepted-exactly words 4096).1 (a, omega arith)
@@ -62,22 +62,22 @@ module _ (words tokens : List ℕ) (room : ℕ) where
     begins = ap (λ r. then_start r words tokens room) loaded
 
   no-cuts : Nowhere (WrongCut (lent words tokens room))
-  no-cuts v (too-many-cuts h) = omega arith
-  no-cuts v (cut-above f h q) = omega arith
+  no-cuts v (too_many_cuts h) = omega arith
+  no-cuts v (cut_above f h q) = omega arith
   no-cuts v (cut_below f h q) = omega arith
 
   -- a row that parse begins
   data Begins : Answer → Type 0 where
-    load-refuses : {refusal : Refusal} → load_answer words 4096 ≡ Refused refusal → Begins (Refused refusal)
-    start-answers : {answer : Answer} → Accepted words → start_answer words (matrix_of (grammar_of words)) tokens [] room ≡ answer → Begins answer
+    load_refuses : {refusal : Refusal} → load_answer words 4096 ≡ Refused refusal → Begins (Refused refusal)
+    start_answers : {answer : Answer} → Accepted words → start_answer words (matrix_of (grammar_of words)) tokens [] room ≡ answer → Begins answer
 
   begun-by : Begins (parse_begun words tokens room)
   unfolding parse_begun
   begun-by = go (load_answer words 4096) refl
     where
       go : (r : Answer) → load_answer words 4096 ≡ r → Begins (then_start r words tokens room)
-      go Done e = start-answers ((accepted-exactly words 4096).0 e).0 refl
-      go (Refused refusal) e = load-refuses e
+      go Done e = start_answers ((accepted-exactly words 4096).0 e).0 refl
+      go (Refused refusal) e = load_refuses e
 
   -- 11 is given for the work area, with the words that it needs, exactly when 1 to 9 pass and it has fewer
   pub parse-area-given : (v : ℕ) → (parse_begun words tokens room ≡ Refused (NoRoom v))
@@ -85,42 +85,42 @@ module _ (words tokens : List ℕ) (room : ℕ) where
   parse-area-given v = ((λ e. out begun-by e), (λ l. back l.0 l.1 l.2))
     where
       out : {r : Answer} → Begins r → r ≡ Refused (NoRoom v) → Checked words tokens room × (room < need (length tokens) 1) × (v ≡ need (length tokens) 1)
-      out (load-refuses q) e = let z = ((load-room-given words 4096 v).0 (q ∙ e)).1 in absurd (omega arith)
-      out (start-answers a q) e =
+      out (load_refuses q) e = let z = ((load-room-given words 4096 v).0 (q ∙ e)).1 in absurd (omega arith)
+      out (start_answers a q) e =
           let s = (start-room-given words (matrix_of (grammar_of words)) tokens [] room v).0 (q ∙ e) in
-          (record { loads = a; some-token = s.1; few-tokens = s.2; right-tokens = s.3 }, s.5, s.6)
+          (record { loads = a; some_token = s.1; few_tokens = s.2; right_tokens = s.3 }, s.5, s.6)
 
       back : Checked words tokens room → room < need (length tokens) 1 → v ≡ need (length tokens) 1 → parse_begun words tokens room ≡ Refused (NoRoom v)
       back k h q =
           begins k.loads ∙ (start-room-given words (matrix_of (grammar_of words)) tokens [] room v).1
-          (not-broken k.loads, k.some-token, k.few-tokens, k.right-tokens, no-cuts, h, q)
+          (not-broken k.loads, k.some_token, k.few_tokens, k.right_tokens, no-cuts, h, q)
 
   -- the row is read exactly when load accepts the words and start the row
   pub parse-begins : (parse_begun words tokens room ≡ Done) ↔ (Accepted words × Startable (lent words tokens room))
   parse-begins = ((λ e. out begun-by e), (λ l. begins l.0 ∙ (starts-exactly words (matrix_of (grammar_of words)) tokens [] room).1 l.1))
     where
       out : {r : Answer} → Begins r → r ≡ Done → Accepted words × Startable (lent words tokens room)
-      out (load-refuses q) e = let z : ◌≡◌ {A = ℕ} 0 1 = cc in absurd (omega arith)
-      out (start-answers a q) e = (a, (starts-exactly words (matrix_of (grammar_of words)) tokens [] room).0 (q ∙ e))
+      out (load_refuses q) e = let z : ◌≡◌ {A = ℕ} 0 1 = cc in absurd (omega arith)
+      out (start_answers a q) e = (a, (starts-exactly words (matrix_of (grammar_of words)) tokens [] room).0 (q ∙ e))
 
   pub checked-starts : Checked words tokens room → need (length tokens) 1 ≤ room → Startable (lent words tokens room)
   checked-starts k h = record {
     in-shape = not-broken k.loads;
-    some-token = k.some-token;
-    few-tokens = k.few-tokens;
-    right-tokens = k.right-tokens;
-    right-cuts = no-cuts;
-    room-enough = enough;
+    some_token = k.some_token;
+    few_tokens = k.few_tokens;
+    right_tokens = k.right_tokens;
+    right_cuts = no-cuts;
+    room_enough = enough;
   }
     where
       enough : Nowhere (NoRoomForRow (lent words tokens room))
       enough v (no_room l q) = omega arith
 
   starts-checked : Accepted words → Startable (lent words tokens room) → Checked words tokens room
-  starts-checked a s = record { loads = a; some-token = s.some-token; few-tokens = s.few-tokens; right-tokens = s.right-tokens }
+  starts-checked a s = record { loads = a; some_token = s.some_token; few_tokens = s.few_tokens; right_tokens = s.right_tokens }
 
   starts-enough : Startable (lent words tokens room) → need (length tokens) 1 ≤ room
-  starts-enough s = le-unless (need (length tokens) 1) room (λ h. s.room-enough (need (length tokens) 1) (no_room h refl))
+  starts-enough s = le-unless (need (length tokens) 1) room (λ h. s.room_enough (need (length tokens) 1) (no_room h refl))
 
   -- the outcome of a row that is read is never 11
   outcome-never : Accepted words → Startable (lent words tokens room) → (v : ℕ) → parse_outcome words tokens ≡ refused_row (NoRoom v) → ⊥
@@ -145,14 +145,14 @@ module _ (words tokens : List ℕ) (room : ℕ) where
           → ParseNoRoom words tokens room report_room v
       out Done q e =
           let p = parse-begins.0 q in
-          for-report (starts-checked p.0 p.1) (starts-enough p.1)
+          for_report (starts-checked p.0 p.1) (starts-enough p.1)
           ((outcome-room-given (parse_outcome words tokens) (outcome-never p.0 p.1) report_room v).0 e)
-      out (Refused refusal) q e = let p = (parse-area-given v).0 (q ∙ same e) in for-area p.0 p.1 p.2
+      out (Refused refusal) q e = let p = (parse-area-given v).0 (q ∙ same e) in for_area p.0 p.1 p.2
 
       back : ParseNoRoom words tokens room report_room v
           → parsed_answer (parse_begun words tokens room) (parse_outcome words tokens) report_room ≡ report.Refused (NoRoom v)
-      back (for-area k h q) = ap (λ r. parsed_answer r (parse_outcome words tokens) report_room) ((parse-area-given v).1 (k, h, q))
-      back (for-report k h n) =
+      back (for_area k h q) = ap (λ r. parsed_answer r (parse_outcome words tokens) report_room) ((parse-area-given v).1 (k, h, q))
+      back (for_report k h n) =
           let s = checked-starts k h in
           ap (λ r. parsed_answer r (parse_outcome words tokens) report_room) (parse-begins.1 (k.loads, s))
           ∙ (outcome-room-given (parse_outcome words tokens) (outcome-never k.loads s) report_room v).1 n

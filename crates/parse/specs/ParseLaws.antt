@@ -31,10 +31,10 @@ use Rattle.machine.specs.TableOf.{table_of, own_table}
 use Rattle.machine.proofs.TableOf.{own-end-mark, own-laws}
 use Rattle.machine.specs.Answers.{outcome_answer, outcome_out}
 use Rattle.results.specs.Runs.{Out, Ends}
-use Rattle.results.specs.RunsEnd.{fine-empty, fine-unmarked, run_ends}
+use Rattle.results.specs.RunsEnd.{fine_empty, fine_unmarked, run_ends}
 use Rattle.machine.specs.Starts.{bottom}
 use Rattle.results.specs.Bounded.{most_moves}
-use Rattle.results.specs.ReadThrough.{alone, Rested, rests-over, rests-stuck, ends-read-through, run-reads-through}
+use Rattle.results.specs.ReadThrough.{alone, Rested, rests_over, rests_stuck, ends-read-through, run-reads-through}
 use Rattle.results.specs.UncutRow.{axiom-of-run, made-in-order}
 use Rattle.layout.specs.Layout.{need, zeros, encode, decode, status_word, made_at_word, read_made}
 use Rattle.layout.specs.Kept.{Kept}
@@ -68,9 +68,9 @@ pub record Finished (area : List ℕ) : Type 0 where
 -- .. of which the outcome is the parse's
 pub record Parsed (words tokens rest area : List ℕ) : Type 0 where
   pub finished : Finished area
-  pub outcome-is : words_outcome area ≡ parse_outcome words tokens
+  pub outcome_is : words_outcome area ≡ parse_outcome words tokens
   pub long : need (length tokens) 1 ≤ length area
-  pub rest-is : drop (need (length tokens) 1) area ≡ rest
+  pub rest_is : drop (need (length tokens) 1) area ≡ rest
 
 -- ---- the words of a row of one chunk that rests
 
@@ -117,8 +117,8 @@ not-below side_by_side h = omega arith
 ended_so : (n : ℕ) {c : Chunk Span} (l : List (Reduction Span)) (moves : ℕ) (rest : List ℕ) {o : Out Span} → Rested o c
     → get_or (encode n (alone c l moves) ++ rest) 5 0 < 17 → get_or (encode n (alone c l moves) ++ rest) 8 0 ≤ get_or (encode n (alone c l moves) ++ rest) 7 0
 unfolding encode
-ended_so n l moves rest rests-over h = omega arith
-ended_so n l moves rest (rests-stuck {why = why} b) h = absurd (not-below why h)
+ended_so n l moves rest rests_over h = omega arith
+ended_so n l moves rest (rests_stuck {why = why} b) h = absurd (not-below why h)
 
 -- ---- a row of accepted words
 
@@ -136,11 +136,11 @@ module _ (words : List ℕ) (accepted : Accepted words) where
     -- the reductions of a row read to its end are made in order
     in_order : {l : List (Reduction Span)} {o : Out Span} {c : Chunk Span} → Rested o c → Ends table bottom (unread_from 0 tokens) l o
         → status_word c.status < 17 → put_in_order l ≡ l
-    in_order rests-over e h =
+    in_order rests_over e h =
         let t = axiom-of-run (own-laws accepted) (own-end-mark accepted) (λ r vs. refl) tokens (no_end can) e in
         let m = made-in-order (own-laws accepted) (own-end-mark accepted) (λ r vs. refl) tokens (no_end can) e t in
-        ap put_in_order m ∙ post-order-stays (λ r w s. (own-laws accepted).has-terminal s) 0 (forest_of t.of-root.tree) t.of-root.grown ∙ sym m
-    in_order (rests-stuck {why = why} b) e h = absurd (not-below why h)
+        ap put_in_order m ∙ post-order-stays (λ r w s. (own-laws accepted).has_terminal s) 0 (forest_of t.of_root.tree) t.of_root.grown ∙ sym m
+    in_order (rests_stuck {why = why} b) e h = absurd (not-below why h)
 
     abbrev pub budget : ℕ
     budget = most_moves (length tokens) 1
@@ -159,9 +159,9 @@ module _ (words : List ℕ) (accepted : Accepted words) where
         let kept = safe-run words matrix (own-shape accepted) 0 budget (safe-start can) r in
         record {
           finished = finished words matrix (own-shape accepted) kept rest (ended_so (length tokens) l moves rest rested) (in_order rested e);
-          outcome-is = outcome-back words matrix (own-shape accepted) kept rest ∙ outcome-run r;
+          outcome_is = outcome-back words matrix (own-shape accepted) kept rest ∙ outcome-run r;
           long = omega (arith, whole words matrix (own-shape accepted) kept rest);
-          rest-is = rest_at (length tokens) (alone c l moves) rest (within-slots kept) (few-reductions kept);
+          rest_is = rest_at (length tokens) (alone c l moves) rest (within-slots kept) (few-reductions kept);
         }
 
     -- the row comes to rest within the budget, in words of which the outcome is the parse's
@@ -173,7 +173,7 @@ module _ (words : List ℕ) (accepted : Accepted words) where
 
     pub row-parsed : (rest : List ℕ) → RowParsed rest
     row-parsed rest =
-        let e = run_ends table (own-end-mark accepted) bottom (unread_from 0 tokens) (fine-unmarked fine-empty) in
+        let e = run_ends table (own-end-mark accepted) bottom (unread_from 0 tokens) (fine_unmarked fine_empty) in
         let t = ends-read-through table e.run [] 0 in
         let r = run-reads-through table (own-end-mark accepted) tokens (no_end can) t.through budget (omega arith) in
         record { made = _; last = _; runs = r; parsed = rested-parsed rest t.rested e.run r }
@@ -195,7 +195,7 @@ loaded-matrix words bytes long e =
 -- words that load accepts, and the matrix that it writes
 pub record Loaded (words bytes : List ℕ) : Type 0 where
   pub loads : load_answer words 4096 ≡ Done
-  pub matrix-is : bytes ≡ matrix_of (grammar_of words)
+  pub matrix_is : bytes ≡ matrix_of (grammar_of words)
 
 -- what is known once the grammar is loaded and the row read through: an answer that refuses is the parse's, with the area as it was; else the words are parsed
 pub record Read (words tokens area : List ℕ) (answer : Answer) (area' : List ℕ) : Type 0 where
@@ -215,7 +215,7 @@ pub loaded : (words bytes : List ℕ) → length bytes ≡ 4096 → {loading : A
     → {bytes' : List ℕ} → bytes' ≡ load_bytes words bytes → Loaded words bytes'
 loaded words bytes long load done fills = record {
   loads = ap (load_answer words) (sym long) ∙ sym load ∙ done;
-  matrix-is = fills ∙ loaded-matrix words bytes long (sym load ∙ done);
+  matrix_is = fills ∙ loaded-matrix words bytes long (sym load ∙ done);
 }
 
 module _ {words bytes : List ℕ} (l : Loaded words bytes) (tokens area : List ℕ) {area' : List ℕ} {reading : Answer}
@@ -226,17 +226,17 @@ module _ {words bytes : List ℕ} (l : Loaded words bytes) (tokens area : List �
   row_read : reading ≡ Done → Parsed words tokens rest area'
   row_read done =
       let starts = can-start words bytes tokens area (sym answers ∙ done) in
-      let can = subst (λ m. Startable (record { words = words; matrix = m; tokens = tokens; cuts = []; room = length area })) l.matrix-is starts in
+      let can = subst (λ m. Startable (record { words = words; matrix = m; tokens = tokens; cuts = []; room = length area })) l.matrix_is starts in
       let r = row-parsed words ((accepted-exactly words 4096).0 l.loads).0 tokens can rest in
       let most : most_moves (length tokens) 1 ≡ 2 * length tokens + 2 = omega arith in
-      let q = subst (λ m. run (table_of words m) 0 (most_moves (length tokens) 1) (start tokens []) ≡ ran r.made r.last) (sym l.matrix-is) r.runs in
+      let q = subst (λ m. run (table_of words m) 0 (most_moves (length tokens) 1) (start tokens []) ≡ ran r.made r.last) (sym l.matrix_is) r.runs in
       let t = subst (λ k. run (table_of words bytes) 0 k (start tokens []) ≡ ran r.made r.last) most q in
       subst (Parsed words tokens rest) (sym (leaves ∙ read-leaves words bytes tokens area (sym answers ∙ done) t)) r.parsed
 
   pub loaded-read : Read words tokens area reading area'
   loaded-read = record {
     begins =
-        begins-by words tokens (length area) l.loads ∙ ap (λ m. start_answer words m tokens [] (length area)) (sym l.matrix-is)
+        begins-by words tokens (length area) l.loads ∙ ap (λ m. start_answer words m tokens [] (length area)) (sym l.matrix_is)
         ∙ sym (read-begins words bytes tokens area) ∙ sym answers;
     kept = λ e. leaves ∙ read-refused words bytes tokens area (sym answers ∙ e);
     parsed = row_read;
@@ -264,6 +264,6 @@ module _ {words tokens area : List ℕ} (out : List ℕ) {area' : List ℕ} {rea
       let p = r.parsed done in
       let most : 7 * length tokens + 18 ≡ need (length tokens) 1 = omega arith in
       let cleared : zeros (7 * length tokens + 18) ++ drop (7 * length tokens + 18) area' ≡ zeros (need (length tokens) 1) ++ drop (need (length tokens) 1) area =
-      ap (λ k. zeros k ++ drop k area') most ∙ ap (λ w. zeros (need (length tokens) 1) ++ w) p.rest-is in
+      ap (λ k. zeros k ++ drop k area') most ∙ ap (λ w. zeros (need (length tokens) 1) ++ w) p.rest_is in
       rw (r.begins ∙ done)
-      (a ∙ ap (λ v. outcome_answer v (length out)) p.outcome-is, (z ∙ cleared, o ∙ ap (λ v. outcome_out v out) p.outcome-is))
+      (a ∙ ap (λ v. outcome_answer v (length out)) p.outcome_is, (z ∙ cleared, o ∙ ap (λ v. outcome_out v out) p.outcome_is))

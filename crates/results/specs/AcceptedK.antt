@@ -8,7 +8,7 @@ use Rattle.language.specs.Words.{grammar_of}
 use Rattle.language.proofs.Checks.{words-pass}
 use Rattle.language.specs.CheckSamples.{words_k}
 use Rattle.language.proofs.CheckSamples.{K-passes}
-use Rattle.language.proofs.WordsInRange.{in-range}
+use Rattle.language.proofs.WordsInRange.{in_range}
 use Rattle.language.proofs.Conflicts.{conflict-none}
 use Rattle.results.specs.SamplesK.{words-K, conflict-K}
 use Rattle.language.specs.Loads.{Accepted}
@@ -19,7 +19,7 @@ use Rattle.machine.proofs.TableOf.{own-end-mark, own-laws}
 pub K-accepted : Accepted words_k
 K-accepted =
     let passed = (words-pass words_k).0 K-passes in
-    let range = in-range words_k passed.head passed.symbols in
+    let range = in_range words_k passed.head passed.symbols in
     record { passed = passed; free = (conflict-none range (rw words-K (lit< tt))).0 (rw words-K conflict-K) }
 
 pub K-end-mark : EndMark (own_table words_k)

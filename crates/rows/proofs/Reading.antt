@@ -21,7 +21,7 @@ module _ (W T C : List ℕ) where
   pub record ReadOf (text rest : List ℕ) (h : Held) (turns : ℕ) : Type 0 where
     pub read : List ℕ
     pub parted : text ≡ read ++ rest
-    pub is-fed : h ≡ after W T C read
+    pub is_fed : h ≡ after W T C read
     pub counted : 2 ^ 64 - 1 ≤ turns + length read
 
   -- the same of the bytes that the input had left, where these are known
@@ -33,7 +33,7 @@ module _ (W T C : List ℕ) where
   pub nothing-read : (known : Option (List ℕ)) (s : State) → s ≡ start → ReadSoFar known known (held s W T C) (2 ^ 64 - 1)
   unfolding fed_all
   nothing-read None s e = tt
-  nothing-read (Some text) s e = record { read = []; parted = refl; is-fed = ap (λ (q : State). held q W T C) e; counted = omega arith }
+  nothing-read (Some text) s e = record { read = []; parted = refl; is_fed = ap (λ (q : State). held q W T C) e; counted = omega arith }
 
   -- one more piece
   pub piece-read : (known left left' : Option (List ℕ)) (h h' : Held) (turns turns' : ℕ) (piece : List ℕ) → ReadSoFar known left h turns → Consumes left left' piece
@@ -45,7 +45,7 @@ module _ (W T C : List ℕ) where
       record {
         read = r.read ++ piece;
         parted = r.parted ∙ ap (λ (b : List ℕ). r.read ++ b) c ∙ sym (append_assoc r.read piece rest');
-        is-fed = e ∙ ap (λ (k : Held). fed_all k piece) r.is-fed ∙ sym (fed-append (held start W T C) r.read piece);
+        is_fed = e ∙ ap (λ (k : Held). fed_all k piece) r.is_fed ∙ sym (fed-append (held start W T C) r.read piece);
         counted = omega (arith, r.counted, length-append r.read piece);
       }
 
@@ -54,7 +54,7 @@ module _ (W T C : List ℕ) where
       → (said ≡ answer_for (read_text text)) × TextHeld W T C text h.words h.tokens h.cuts
   all-read text h said e s = (
     s ∙ ap (λ (k : Held). finish_of k.state) e ∙ (text-fed W T C text).finished,
-    record { words-held = ap (λ (k : Held). k.words) e; tokens-held = ap (λ (k : Held). k.tokens) e; cuts-held = ap (λ (k : Held). k.cuts) e },
+    record { words_held = ap (λ (k : Held). k.words) e; tokens_held = ap (λ (k : Held). k.tokens) e; cuts_held = ap (λ (k : Held). k.cuts) e },
   )
 
   -- reading ends where a read gives nothing and nothing is left
@@ -64,7 +64,7 @@ module _ (W T C : List ℕ) where
   read-to-end (Some text) None left' h turns said r c z s = absurd r
   read-to-end (Some text) (Some rest) None h turns said r c z s = absurd c
   read-to-end (Some text) (Some rest) (Some rest') h turns said r c z s =
-      λ short. all-read text h said (r.is-fed ∙ ap (λ (b : List ℕ). after W T C b) (none-left text r.read rest r.parted (c ∙ z))) s
+      λ short. all-read text h said (r.is_fed ∙ ap (λ (b : List ℕ). after W T C b) (none-left text r.read rest r.parted (c ∙ z))) s
 
   -- or where the text says what it says, whatever comes
   pub read-to-answer : (known left : Option (List ℕ)) (h : Held) (turns : ℕ) (said : TextAnswer) → ReadSoFar known left h turns → (answer_of h.state ≡ More → ⊥)
@@ -77,7 +77,7 @@ module _ (W T C : List ℕ) where
       whole =
           ap (λ (b : List ℕ). after W T C b) r.parted
           ∙ fed-append (held start W T C) r.read rest
-          ∙ ap (λ (k : Held). fed_all k rest) (sym r.is-fed)
+          ∙ ap (λ (k : Held). fed_all k rest) (sym r.is_fed)
           ∙ still h n rest
 
   -- or after as many turns as no text has bytes
@@ -88,4 +88,4 @@ module _ (W T C : List ℕ) where
   read-to-turns (Some text) (Some rest) h turns said r o s =
       λ short.
       let e : length rest ≡ 0 = omega (arith, r.counted, short, o, ap length r.parted ∙ length-append r.read rest) in
-      all-read text h said (r.is-fed ∙ ap (λ (b : List ℕ). after W T C b) (none-left text r.read rest r.parted (nil_from_length rest e))) s
+      all-read text h said (r.is_fed ∙ ap (λ (b : List ℕ). after W T C b) (none-left text r.read rest r.parted (nil_from_length rest e))) s

@@ -24,9 +24,9 @@ said-is W T C text W' T' C' w t c h = go (read_text text) refl
     go (lines words tokens cuts) e =
         let b = buffers-hold W T C w t c text words tokens cuts e in
         rw (
-          front words W W' (h.words-held ∙ ap (λ (k : Held). k.words) b),
-          front tokens T T' (h.tokens-held ∙ ap (λ (k : Held). k.tokens) b),
-          front cuts C C' (h.cuts-held ∙ ap (λ (k : Held). k.cuts) b),
+          front words W W' (h.words_held ∙ ap (λ (k : Held). k.words) b),
+          front tokens T T' (h.tokens_held ∙ ap (λ (k : Held). k.tokens) b),
+          front cuts C C' (h.cuts_held ∙ ap (λ (k : Held). k.cuts) b),
         )
 
 -- what holds of the bytes that are written for an answer holds of those for the text

@@ -20,10 +20,10 @@ use Rattle.laws.specs.Passed.{must-pass, must-fail, both, unless}
 use Rattle.language.specs.Symbols.{Symbol, terminal, nonterminal, word_of}
 use Rattle.language.specs.Trees.{Span}
 use Rattle.machine.specs.Entries.{Unread, terminal_at, Entry, terminal_on, nonterminal_on, symbol, unmarked}
-use Rattle.results.specs.RunsEnd.{MarksFine, fine-empty, fine-nonterminal, fine-unmarked, fine-marked}
+use Rattle.results.specs.RunsEnd.{MarksFine, fine_empty, fine_nonterminal, fine_unmarked, fine_marked}
 use Rattle.area.specs.declared.shape.Scan.{Scan}
 use Rattle.layout.specs.Layout.{more, size, block, mark_word, span_at, unread_of}
-use Rattle.layout.specs.Kept.{Lies, first-end, last_end, within, SymbolInRange}
+use Rattle.layout.specs.Kept.{Lies, first_end, last_end, within, SymbolInRange}
 use Rattle.layout.specs.Lengths.{end-size}
 use Rattle.area.specs.Shape.{symbol_fits, place_fits, tag, one_if_terminal, broken, opened, inner, scan_slot, scanned}
 
@@ -63,7 +63,7 @@ word e = word_of (symbol (unmarked e))
 
 symbol-tested : (t N : ℕ) → t < 256 → (e : Entry Span) → SymbolInRange t N (symbol (unmarked e)) → MarksFine (e ∷ []) → symbol_fits t N (word e) (mark_word e) ≡ true
 symbol-tested t N few (terminal_on false a v) r f = rw (le-leb a t r)
-symbol-tested t N few (terminal_on true a v) r (fine-marked i f) = rw (i, le-leb a t r)
+symbol-tested t N few (terminal_on true a v) r (fine_marked i f) = rw (i, le-leb a t r)
 symbol-tested t N few (nonterminal_on k v) r f =
     rw (lt-leb (256 + k) t (omega arith), le-ltb (256 + k) 256 (omega arith), lt-ltb (256 + k) (256 + N) (omega arith))
 
@@ -72,7 +72,7 @@ word_end (terminal a) e = ap terminal e
 word_end (nonterminal k) e = absurd (omega arith)
 
 place-tested : {n slot : ℕ} (x : Unread Span) → Lies n slot x → place_fits n slot (word_of (symbol x)) (size x) ≡ true
-place-tested x (first-end q e v) = rw (q, e, end-size x e)
+place-tested x (first_end q e v) = rw (q, e, end-size x e)
 place-tested {n} x (last_end q e v) = rw (q, e, end-size x e, ne_eqb (n + 1) 0 (λ h. omega arith), eq-eqb (n + 1) (n + 1) refl)
 place-tested {n} {slot} x (within l h e v) =
     rw (
@@ -88,21 +88,21 @@ stands-to-tests {t} {N} few e st =
 
 -- the words of a symbol that pass the tests: which symbol it is, and where it stands
 data SymbolView (t N s m : ℕ) : Type 0 where
-  is-end : s ≡ 0 → m ≡ 0 → SymbolView t N s m
-  is-terminal : (a : ℕ) (mark : Bool) → s ≡ suc a → suc a ≤ t → pick mark 1 0 ≡ m → SymbolView t N s m
-  is-nonterminal : (k : ℕ) → s ≡ 256 + k → k < N → m ≡ 0 → SymbolView t N s m
+  is_end : s ≡ 0 → m ≡ 0 → SymbolView t N s m
+  is_terminal : (a : ℕ) (mark : Bool) → s ≡ suc a → suc a ≤ t → pick mark 1 0 ≡ m → SymbolView t N s m
+  is_nonterminal : (k : ℕ) → s ≡ 256 + k → k < N → m ≡ 0 → SymbolView t N s m
 
 data PlaceView (n slot s l : ℕ) : Type 0 where
-  at-end : (slot ≡ 0) ⊎ (slot ≡ n + 1) → s ≡ 0 → l ≡ 1 → PlaceView n slot s l
+  at_end : (slot ≡ 0) ⊎ (slot ≡ n + 1) → s ≡ 0 → l ≡ 1 → PlaceView n slot s l
   inside : 0 < slot → slot + l ≤ n + 1 → (s ≡ 0 → ⊥) → PlaceView n slot s l
 
 end-or-terminal : {t N : ℕ} (s m : ℕ) → s ≤ t → m ≡ 0 → SymbolView t N s m
-end-or-terminal zero m h e = is-end refl e
-end-or-terminal (suc a) m h e = is-terminal a false refl h (sym e)
+end-or-terminal zero m h e = is_end refl e
+end-or-terminal (suc a) m h e = is_terminal a false refl h (sym e)
 
-some-terminal : {t N : ℕ} (s m : ℕ) → (s ≡ 0 → ⊥) → s ≤ t → m ≡ 1 → SymbolView t N s m
-some-terminal zero m i h e = absurd (i refl)
-some-terminal (suc a) m i h e = is-terminal a true refl h (sym e)
+some_terminal : {t N : ℕ} (s m : ℕ) → (s ≡ 0 → ⊥) → s ≤ t → m ≡ 1 → SymbolView t N s m
+some_terminal zero m i h e = absurd (i refl)
+some_terminal (suc a) m i h e = is_terminal a true refl h (sym e)
 
 symbol-view : (t N s m : ℕ) → symbol_fits t N s m ≡ true → SymbolView t N s m
 symbol-view t N s m = go (eqb m 0) refl
@@ -113,7 +113,7 @@ symbol-view t N s m = go (eqb m 0) refl
         let p = unless (ltb s 256) (ltb s (256 + N)) h in
         let over : 256 ≤ s = ltb-false s 256 p.passes in
         let below : s < 256 + N = ltb-true s (256 + N) p.good in
-        is-nonterminal (s - 256) (omega arith) (omega arith) e
+        is_nonterminal (s - 256) (omega arith) (omega arith) e
 
     go : (b : Bool) → eqb m 0 ≡ b
         → pick b (pick (leb s t) true (pick (ltb s 256) false (ltb s (256 + N)))) (pick (eqb m 1) (pick (eqb s 0) false (leb s t)) false) ≡ true → SymbolView t N s m
@@ -121,13 +121,13 @@ symbol-view t N s m = go (eqb m 0) refl
     go false q h =
         let p = both (eqb m 1) (pick (eqb s 0) false (leb s t)) h in
         let r = unless (eqb s 0) (leb s t) p.good in
-        some-terminal s m (eqb-false s 0 r.passes) (leb-true s t r.good) (eqb-true m 1 p.passes)
+        some_terminal s m (eqb-false s 0 r.passes) (leb-true s t r.good) (eqb-true m 1 p.passes)
 
 place_view : (n slot s l : ℕ) → place_fits n slot s l ≡ true → PlaceView n slot s l
 place_view n slot s l = go (eqb slot 0) (eqb slot (n + 1)) refl refl
   where
     end : (slot ≡ 0) ⊎ (slot ≡ n + 1) → pick (eqb s 0) (eqb l 1) false ≡ true → PlaceView n slot s l
-    end at h = let p = both (eqb s 0) (eqb l 1) h in at-end at (eqb-true s 0 p.passes) (eqb-true l 1 p.good)
+    end at h = let p = both (eqb s 0) (eqb l 1) h in at_end at (eqb-true s 0 p.passes) (eqb-true l 1 p.good)
 
     go : (b c : Bool) → eqb slot 0 ≡ b → eqb slot (n + 1) ≡ c
         → pick b (pick (eqb s 0) (eqb l 1) false) (pick c (pick (eqb s 0) (eqb l 1) false) (pick (eqb s 0) false (leb (slot + l) (n + 1)))) ≡ true → PlaceView n slot s l
@@ -141,8 +141,8 @@ place_view n slot s l = go (eqb slot 0) (eqb slot (n + 1)) refl refl
 -- words s, m and l of a slot are those of an entry that stands there
 pub record Opening (t N n slot s m l : ℕ) : Type 0 where
   pub entry : Entry Span
-  pub word-is : word entry ≡ s
-  pub mark-is : mark_word entry ≡ m
+  pub word_is : word entry ≡ s
+  pub mark_is : mark_word entry ≡ m
   pub size_is : size (unmarked entry) ≡ l
   pub stands : EntryStands t N n slot entry
 
@@ -161,47 +161,47 @@ inside-lies n slot l (nonterminal j) p q h e =
     record { size_is = k; lies = within p (omega arith) e (ap (λ i. span_at (nonterminal j) slot i) (sym k)) }
 
 mark-fine : (mark : Bool) (a : ℕ) (v : Span) → MarksFine (terminal_on mark (suc a) v ∷ [])
-mark-fine true a v = fine-marked (ne_eqb (suc a) 0 (λ h. omega arith)) fine-empty
-mark-fine false a v = fine-unmarked fine-empty
+mark-fine true a v = fine_marked (ne_eqb (suc a) 0 (λ h. omega arith)) fine_empty
+mark-fine false a v = fine_unmarked fine_empty
 
 mark-number : (mark : Bool) (a : ℕ) (v : Span) → mark_word (terminal_on mark a v) ≡ pick mark 1 0
 mark-number true a v = refl
 mark-number false a v = refl
 
 end-lies : {n slot : ℕ} → (slot ≡ 0) ⊎ (slot ≡ n + 1) → Lies n slot (terminal_at 0 (span_at (terminal 0) slot 1))
-end-lies (inl q) = first-end q refl refl
+end-lies (inl q) = first_end q refl refl
 end-lies (inr q) = last_end q refl refl
 
 opening : {t N n slot s m l : ℕ} → 0 < l → SymbolView t N s m → PlaceView n slot s l → Opening t N n slot s m l
-opening {slot = slot} i (is-end e z) (at-end at e' o) =
+opening {slot = slot} i (is_end e z) (at_end at e' o) =
     record {
       entry = terminal_on false 0 (span_at (terminal 0) slot 1);
-      word-is = sym e;
-      mark-is = sym z;
+      word_is = sym e;
+      mark_is = sym z;
       size_is = sym o;
-      stands = record { lies = end-lies at; ranged = omega arith; fine = fine-unmarked fine-empty };
+      stands = record { lies = end-lies at; ranged = omega arith; fine = fine_unmarked fine_empty };
     }
-opening i (is-end e z) (inside p h f) = absurd (f e)
-opening i (is-terminal a mark e h m) (at-end at e' o) = absurd (omega arith)
-opening {n = n} {slot = slot} {l = l} i (is-terminal a mark e h m) (inside p q f) =
+opening i (is_end e z) (inside p h f) = absurd (f e)
+opening i (is_terminal a mark e h m) (at_end at e' o) = absurd (omega arith)
+opening {n = n} {slot = slot} {l = l} i (is_terminal a mark e h m) (inside p q f) =
     let v : Span = span_at (terminal (suc a)) slot l in
     let r = inside-lies n slot l (terminal (suc a)) p i q (λ z. f (e ∙ ap word_of z)) in
     record {
       entry = terminal_on mark (suc a) v;
-      word-is = sym e;
-      mark-is = mark-number mark (suc a) v ∙ m;
+      word_is = sym e;
+      mark_is = mark-number mark (suc a) v ∙ m;
       size_is = r.size_is;
       stands = record { lies = r.lies; ranged = h; fine = mark-fine mark a v };
     }
-opening i (is-nonterminal k e h m) (at-end at e' o) = absurd (omega arith)
-opening {n = n} {slot = slot} {l = l} i (is-nonterminal k e h m) (inside p q f) =
+opening i (is_nonterminal k e h m) (at_end at e' o) = absurd (omega arith)
+opening {n = n} {slot = slot} {l = l} i (is_nonterminal k e h m) (inside p q f) =
     let r = inside-lies n slot l (nonterminal k) p i q (λ z. f (e ∙ ap word_of z)) in
     record {
       entry = nonterminal_on k (span_at (nonterminal k) slot l);
-      word-is = sym e;
-      mark-is = sym m;
+      word_is = sym e;
+      mark_is = sym m;
       size_is = r.size_is;
-      stands = record { lies = r.lies; ranged = h; fine = fine-nonterminal fine-empty };
+      stands = record { lies = r.lies; ranged = h; fine = fine_nonterminal fine_empty };
     }
 
 pub tests-to-stands : {t N n slot s m l : ℕ} → 0 < l → Tested t N n slot s m l → Opening t N n slot s m l

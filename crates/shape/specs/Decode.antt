@@ -24,12 +24,12 @@ use Rattle.machine.specs.Chunks.{Status, running, stuck, Chunk}
 use Rattle.machine.specs.States.{State}
 use Rattle.layout.specs.Layout.{need, size, block, mark_word, stack_size, stack_words, unread_words, chunk_size, chunk_words, status_word, row, rows, slots, encode, row_word, slots_at}
 use Rattle.layout.specs.Layout.{slot_word, made_at_word, span_at, unread_of, stack_entry_of, unread_at, stack_entry_at, read_unread, read_stack, status_of, chunk_of, read_made, decode}
-use Rattle.layout.specs.Kept.{Lies, first-end, last_end, within, SymbolInRange, Kept}
+use Rattle.layout.specs.Kept.{Lies, first_end, last_end, within, SymbolInRange, Kept}
 use Rattle.layout.specs.Lengths.{length-row, length-stack, length-chunk, length-block, within-slots, encode-length}
 use Rattle.shape.specs.Blocks.{EntryStands, word}
-use Rattle.shape.specs.Sides.{rising_words, Placed, no_more, then-stands, placed_end}
+use Rattle.shape.specs.Sides.{rising_words, Placed, no_more, then_stands, placed_end}
 use Rattle.shape.specs.Rising.{rising-stack, plain-unread}
-use Rattle.shape.specs.Walks.{ChunkFits, AllFit, no-more-fit, gone-fits, live-fits, status-word}
+use Rattle.shape.specs.Walks.{ChunkFits, AllFit, no_more_fit, gone-fits, live_fits, status-word}
 use Rattle.shape.specs.Chunkwise.{kept-fits}
 use Rattle.shape.specs.Encoded.{area, slots_from, slots-past, from_slots, from_unused_slots, from_unused_made, chunks-at, moves-at, count_at, table-at, slots-at, made_at}
 use Rattle.area.specs.Shape.{area_in_shape}
@@ -42,7 +42,7 @@ symbol-back t N few (terminal a) r = rw (lt-ltb a 256 (omega arith), symbol_of)
 symbol-back t N few (nonterminal k) r = let e : 256 + k - 256 ≡ k = omega arith in rw (le-ltb (256 + k) 256 (omega arith), symbol_of, e)
 
 value-of : {n s : ℕ} {x : Unread Span} → Lies n s x → value_of x ≡ span_at (symbol x) s (size x)
-value-of (first-end q e v) = v
+value-of (first_end q e v) = v
 value-of (last_end q e v) = v
 value-of (within l h e v) = v
 
@@ -67,34 +67,34 @@ status-back (stuck side_by_side) = refl
 module _ (t N n : ℕ) (few : t < 256) (words : List ℕ) where
   -- the words of an entry that stands at slot s
   record EntryAt (s : ℕ) (x : Entry Span) : Type 0 where
-    symbol-at : slot_word words s 0 ≡ word x
-    mark-at : slot_word words s 1 ≡ mark_word x
-    size-at : slot_word words s 2 ≡ size (unmarked x)
+    symbol_at : slot_word words s 0 ≡ word x
+    mark_at : slot_word words s 1 ≡ mark_word x
+    size_at : slot_word words s 2 ≡ size (unmarked x)
 
   entry-words : (s : ℕ) (x : Entry Span) (after : List ℕ) → slots_from words s ≡ block (mark_word x) (unmarked x) ++ after → EntryAt s x
   unfolding block
   entry-words s x after d =
       let at : (k : ℕ) → slot_word words s k ≡ get_or (block (mark_word x) (unmarked x) ++ after) k 0 = λ k. get_d_past words (slots_at words + 4 * s) k _ d in
-      record { symbol-at = at 0; mark-at = at 1; size-at = at 2 }
+      record { symbol_at = at 0; mark_at = at 1; size_at = at 2 }
 
   entry-at : (s : ℕ) (x : Entry Span) → EntryStands t N n s x → EntryAt s x → stack_entry_at words s ≡ x
   entry-at s x st e =
-      rw (e.symbol-at, e.mark-at, e.size-at, symbol-back t N few (symbol (unmarked x)) st.ranged, ← value-of st.lies) (entry_read x)
+      rw (e.symbol_at, e.mark_at, e.size_at, symbol-back t N few (symbol (unmarked x)) st.ranged, ← value-of st.lies) (entry_read x)
 
   unread-at : (s : ℕ) (x : Entry Span) → EntryStands t N n s x → EntryAt s x → unread_at words s ≡ unmarked x
   unread-at s x st e =
-      rw (e.symbol-at, e.size-at, symbol-back t N few (symbol (unmarked x)) st.ranged, ← value-of st.lies) (symbol-read (unmarked x))
+      rw (e.symbol_at, e.size_at, symbol-back t N few (symbol (unmarked x)) st.ranged, ← value-of st.lies) (symbol-read (unmarked x))
 
   stack-back : {s e : ℕ} {entries : List (Entry Span)} → Placed t N n s entries e → (fuel : ℕ) (below : List (Entry Span)) (after : List ℕ) → e ≤ s + fuel
       → slots_from words s ≡ rising_words entries ++ after → read_stack fuel words s e below ≡ reverse_aux entries below
   stack-back (no_more q) zero below after h d = refl
   stack-back {s} {e} (no_more q) (suc fuel) below after h d = rw (le-ltb s e (omega arith), read_stack)
-  stack-back (then-stands {x = x} st p) zero below after h d = absurd (omega (arith, placed_end p))
-  stack-back {s} {e} (then-stands {x = x} {entries = entries} st p) (suc fuel) below after h d =
+  stack-back (then_stands {x = x} st p) zero below after h d = absurd (omega (arith, placed_end p))
+  stack-back {s} {e} (then_stands {x = x} {entries = entries} st p) (suc fuel) below after h d =
       let own : List ℕ = block (mark_word x) (unmarked x) in
       let d₁ = d ∙ append_assoc own (rising_words entries) after in
       let w = entry-words s x (rising_words entries ++ after) d₁ in
-      rw (lt-ltb s e (omega (arith, placed_end p)), read_stack, entry-at s x st w, w.size-at)
+      rw (lt-ltb s e (omega (arith, placed_end p)), read_stack, entry-at s x st w, w.size_at)
       (stack-back p fuel (x ∷ below) after (omega arith)
       (slots-past words s (size (unmarked x)) own (rising_words entries ++ after) (length-block (mark_word x) (unmarked x)) d₁))
 
@@ -102,13 +102,13 @@ module _ (t N n : ℕ) (few : t < 256) (words : List ℕ) where
       → slots_from words s ≡ rising_words entries ++ after → read_unread fuel words s e ≡ map unmarked entries
   unread-back (no_more q) zero after h d = refl
   unread-back {s} {e} (no_more q) (suc fuel) after h d = rw (le-ltb s e (omega arith), read_unread)
-  unread-back (then-stands {x = x} st p) zero after h d = absurd (omega (arith, placed_end p))
-  unread-back {s} {e} (then-stands {x = x} {entries = entries} st p) (suc fuel) after h d =
+  unread-back (then_stands {x = x} st p) zero after h d = absurd (omega (arith, placed_end p))
+  unread-back {s} {e} (then_stands {x = x} {entries = entries} st p) (suc fuel) after h d =
       let own : List ℕ = block (mark_word x) (unmarked x) in
       let d₁ = d ∙ append_assoc own (rising_words entries) after in
       let w = entry-words s x (rising_words entries ++ after) d₁ in
       let d₂ = slots-past words s (size (unmarked x)) own (rising_words entries ++ after) (length-block (mark_word x) (unmarked x)) d₁ in
-      rw (lt-ltb s e (omega (arith, placed_end p)), read_unread, unread-at s x st w, w.size-at, unread-back p fuel after (omega arith) d₂)
+      rw (lt-ltb s e (omega (arith, placed_end p)), read_unread, unread-at s x st w, w.size_at, unread-back p fuel after (omega arith) d₂)
 
   -- ---- a chunk
 
@@ -134,26 +134,26 @@ module _ (t N n : ℕ) (few : t < 256) (words : List ℕ) where
       let b₁ = b ∙ append_assoc (stack_words chunk.stack) (unread_words chunk.unread) beyond in
       let b₂ = slots-past words from (stack_size chunk.stack) (stack_words chunk.stack) (unread_words chunk.unread ++ beyond) (length-stack chunk.stack) b₁ in
       let stack_is : read_stack (head - from) words from head [] ≡ chunk.stack =
-      stack-back f.stack-stands (head - from) [] (unread_words chunk.unread ++ beyond) (omega arith) (rw r.words_are b₁)
+      stack-back f.stack_stands (head - from) [] (unread_words chunk.unread ++ beyond) (omega arith) (rw r.words_are b₁)
       ∙ reverse-reverse chunk.stack in
-      let unread-is : read_unread (end - head) words head end ≡ chunk.unread =
-      unread-back f.unread-stands (end - head) beyond (omega arith) (rw p.words_are b₂) ∙ p.symbols-are in
-      rw (e, chunk_of, at 0 (omega arith), at 1 (omega arith), at 2 (omega arith), at 3 (omega arith), stack_is, unread-is, status-back chunk.status)
+      let unread_is : read_unread (end - head) words head end ≡ chunk.unread =
+      unread-back f.unread_stands (end - head) beyond (omega arith) (rw p.words_are b₂) ∙ p.symbols_are in
+      rw (e, chunk_of, at 0 (omega arith), at 1 (omega arith), at 2 (omega arith), at 3 (omega arith), stack_is, unread_is, status-back chunk.status)
 
   chunks-back : {from : ℕ} {chunks : List (Option (Chunk Span))} → AllFit t N n from chunks → (c : ℕ) (after beyond : List ℕ)
       → drop (5 + 5 * c) words ≡ rows from chunks ++ after → slots_from words from ≡ slots chunks ++ beyond
       → (i : ℕ) → i < length chunks → chunk_of words (c + i) ≡ get_or chunks i none
-  chunks-back no-more-fit c after beyond d b i h = absurd (omega arith)
+  chunks-back no_more_fit c after beyond d b i h = absurd (omega arith)
   chunks-back {from} (gone-fits {chunks = chunks} f) c after beyond d b zero h = rw (add-zero c) (gone-back c from (rows (from + 0) chunks ++ after) d)
   chunks-back {from} (gone-fits {chunks = chunks} f) c after beyond d b (suc i) h =
       let z : from + 0 ≡ from = omega arith in
       let j : c + suc i ≡ c + 1 + i = omega arith in
       let d₁ = drop_past words (5 + 5 * c) (5 + 5 * (c + 1)) (row from none) (rows (from + 0) chunks ++ after) (omega arith) d in
       rw j (chunks-back f (c + 1) after beyond (rw z at d₁) b i (omega arith))
-  chunks-back {from} (live-fits {c = chunk} {chunks = chunks} f fs) c after beyond d b zero h =
+  chunks-back {from} (live_fits {c = chunk} {chunks = chunks} f fs) c after beyond d b zero h =
       let b₁ = b ∙ append_assoc (chunk_words (some chunk)) (slots chunks) beyond in
       rw (add-zero c) (live_back c from chunk (rows (from + chunk_size (some chunk)) chunks ++ after) (slots chunks ++ beyond) f d b₁)
-  chunks-back {from} (live-fits {c = chunk} {chunks = chunks} f fs) c after beyond d b (suc i) h =
+  chunks-back {from} (live_fits {c = chunk} {chunks = chunks} f fs) c after beyond d b (suc i) h =
       let j : c + suc i ≡ c + 1 + i = omega arith in
       let b₁ = b ∙ append_assoc (chunk_words (some chunk)) (slots chunks) beyond in
       let b₂ = slots-past words from (chunk_size (some chunk)) (chunk_words (some chunk)) (slots chunks ++ beyond) (length-chunk (some chunk)) b₁ in
@@ -197,7 +197,7 @@ encode-once few k k' e = sym (decode-encode few k []) ∙ ap (λ l. decode (l ++
 pub decoded : (t N : ℕ) (words : List ℕ) → t < 256 → get_or words 2 0 < 65536 → area_in_shape t N words ≡ true → HoldsState t N words (decode words)
 decoded t N words few low h =
     let r = shape-state t N words few low h in
-    let k = r.holds-state in
+    let k = r.holds_state in
     subst (λ s. HoldsState t N words s) (sym (decode-encode few k.kept (drop (need (get_or words 0 0) (get_or words 1 0)) words)) ∙ ap decode (sym k.is)) k
 
 -- encoding undoes decoding, on the words that the state needs
@@ -207,5 +207,5 @@ encode-decode t N words few low h =
     let r = decoded t N words few low h in
     let n : ℕ = get_or words 0 0 in
     let k : ℕ = need n (get_or words 1 0) in
-    let l : length (encode n (decode words)) ≡ k = encode-length r.kept ∙ ap (λ c. need n c) r.chunks-are in
+    let l : length (encode n (decode words)) ≡ k = encode-length r.kept ∙ ap (λ c. need n c) r.chunks_are in
     sym (ap (λ l. take k l) r.is ∙ take_at (encode n (decode words)) (drop k words) k l)

@@ -2,7 +2,7 @@
 -- docs/AREA.md, the layout: front, table, slots, reductions.
 -- Rests on layout's Layout and Lengths.
 --
--- Main definitions: slots_from, area. Main statements: slots-past; area-is; tokens-at, chunks-at, moves-at, count_at (the front); table-at,
+-- Main definitions: slots_from, area. Main statements: slots-past; area_is; tokens-at, chunks-at, moves-at, count_at (the front); table-at,
 -- slots-at, unused-slots-at, made_at, unused-made-at, rest_at.
 use Rattle.std.specs.Prelude.{◌≡◌, ℕ, ◌+◌, ◌*◌, ◌-◌, ◌%◌, ◌≤◌, length, get_or, drop}
 use Rattle.std.proofs.Math.Path.{refl}
@@ -42,9 +42,9 @@ module _ (n : ℕ) (s : State Span) (rest : List ℕ) where
   abbrev pub from_slots : List ℕ
   from_slots = slots s.chunks ++ from_unused_slots
 
-  pub area-is : area ≡ front n (length s.chunks) s.moves (length s.reductions) ++ (rows 0 s.chunks ++ from_slots)
+  pub area_is : area ≡ front n (length s.chunks) s.moves (length s.reductions) ++ (rows 0 s.chunks ++ from_slots)
   unfolding encode
-  area-is = simp append_assoc
+  area_is = simp append_assoc
 
   pub tokens-at : get_or area 0 0 ≡ n
   unfolding encode
@@ -67,7 +67,7 @@ module _ (n : ℕ) (s : State Span) (rest : List ℕ) where
   count_at = refl
 
   pub table-at : drop 5 area ≡ rows 0 s.chunks ++ from_slots
-  table-at = ap (λ l. drop 5 l) area-is
+  table-at = ap (λ l. drop 5 l) area_is
 
   pub slots_at-is : slots_at area ≡ 5 + 5 * length s.chunks
   slots_at-is = ap (λ k. 5 + 5 * k) chunks-at

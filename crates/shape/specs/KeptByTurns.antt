@@ -14,10 +14,10 @@ use Rattle.machine.specs.Laws.{EndMark}
 use Rattle.machine.specs.States.{State, ran, live, run}
 use Rattle.machine.specs.TableOf.{table_of}
 use Rattle.results.specs.Bounded.{Falls, falls-kept, moves-bounded}
-use Rattle.machine.specs.Schedules.{Turned, by-step, Schedule, no-turn, one-turn}
+use Rattle.machine.specs.Schedules.{Turned, by_step, Schedule, no_turn, one_turn}
 use Rattle.machine.proofs.Schedules.{listed}
 use Rattle.machine.proofs.AllowedExactly.{step-exactly}
-use Rattle.machine.specs.Counts.{NamedMoves, no_move, move-and}
+use Rattle.machine.specs.Counts.{NamedMoves, no_move, move_and}
 use Rattle.machine.proofs.Counts.{run-exactly}
 use Rattle.matrix.specs.GrammarShape.{rule_a}
 use Rattle.layout.specs.Kept.{Kept}
@@ -38,16 +38,16 @@ module _ (words bytes : List ℕ) (rule-a : rule_a words ≡ true) (ends : EndMa
       let before = whole_before l.changed k.ending in
       let st = stands (first-stack k.first) before.0 (holds_kept l.changed before.0) row (rw before.1 at k.tiles) in
       record {
-        some-token = k.some-token;
-        few-tokens = k.few-tokens;
-        few-chunks = omega (arith, k.few-chunks, same_number turn);
-        first = first-of s'.chunks (l.zero-stays (zero-live k.first)) falls'.first;
+        some_token = k.some_token;
+        few_tokens = k.few_tokens;
+        few_chunks = omega (arith, k.few_chunks, same_number turn);
+        first = first-of s'.chunks (l.zero_stays (zero-live k.first)) falls'.first;
         end = st.end;
         ending = st.ending;
         tiles = st.tiles;
         ranged = ranged-kept row k.ranged;
         fine = falls'.fine;
-        stuck-fine = stuck-kept k.stuck-fine l.changed;
+        stuck_fine = stuck-kept k.stuck_fine l.changed;
         room = omega (arith, k.room, ap length l.added, length-append s.reductions l.made, terminals-fall ends k.fine l.changed);
         bounded = rw (same_number turn) (omega (arith, k.bounded, moves-bounded table ends falls turn));
       }
@@ -55,7 +55,7 @@ module _ (words bytes : List ℕ) (rule-a : rule_a words ≡ true) (ends : EndMa
   -- any number of moves of one chunk
   pub kept-made : {t n c j : ℕ} {s s' : State Span} → Kept t (count_n words) n s → NamedMoves table c s j s' → Kept t (count_n words) n s'
   kept-made k no_move = k
-  kept-made {c = c} k (move-and {s = s} {s' = s'} h m) = kept-made (kept-turned k (by-step c ((step-exactly table c s s').0 h))) m
+  kept-made {c = c} k (move_and {s = s} {s' = s'} h m) = kept-made (kept-turned k (by_step c ((step-exactly table c s s').0 h))) m
 
   -- "it makes moves until K are made or it rests"
   pub kept_run : {t n : ℕ} (c budget : ℕ) {j : ℕ} {s s' : State Span} → Kept t (count_n words) n s → run table c budget s ≡ ran j s' → Kept t (count_n words) n s'
@@ -63,5 +63,5 @@ module _ (words bytes : List ℕ) (rule-a : rule_a words ≡ true) (ends : EndMa
 
   -- any schedule
   pub kept-scheduled : {t n i : ℕ} {s s' : State Span} → Kept t (count_n words) n s → Schedule table s i s' → Kept t (count_n words) n s'
-  kept-scheduled k no-turn = k
-  kept-scheduled k (one-turn turn rest) = kept-scheduled (kept-turned k turn) rest
+  kept-scheduled k no_turn = k
+  kept-scheduled k (one_turn turn rest) = kept-scheduled (kept-turned k turn) rest

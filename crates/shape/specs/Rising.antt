@@ -10,10 +10,10 @@ use mathlib.Core.List.{List, [], ◌∷◌, ◌++◌, append_assoc, append-nil, 
 use Rattle.std.proofs.lemmas.List.{length-reverse}
 use Rattle.language.specs.Trees.{Span}
 use Rattle.machine.specs.Entries.{Unread, terminal_at, nonterminal_at, Entry, terminal_on, nonterminal_on, unmarked, stack_symbols}
-use Rattle.results.specs.RunsEnd.{terminals_on, terminals_unread, MarksFine, fine-empty, fine-nonterminal, fine-unmarked, fine-marked}
+use Rattle.results.specs.RunsEnd.{terminals_on, terminals_unread, MarksFine, fine_empty, fine_nonterminal, fine_unmarked, fine_marked}
 use Rattle.layout.specs.Layout.{size, block, mark_word, stack_size, stack_words, marks, unread_size, unread_words}
-use Rattle.layout.specs.Kept.{Tiles, tiled, tile, AllInRange, none_left, in-range}
-use Rattle.shape.specs.Sides.{rising_words, Placed, no_more, then-stands}
+use Rattle.layout.specs.Kept.{Tiles, tiled, tile, AllInRange, none_left, in_range}
+use Rattle.shape.specs.Sides.{rising_words, Placed, no_more, then_stands}
 
 -- ---- a stack, bottom first
 
@@ -43,43 +43,43 @@ symbols-rising (x ∷ stack) above = symbols-rising stack (x ∷ above) ∙ sym 
 pub record Rising (stack : List (Entry Span)) : Type 0 where
   pub words_are : rising_words (reverse stack) ≡ stack_words stack
   pub size_is : stack_size (reverse stack) ≡ stack_size stack
-  pub length-is : length (reverse stack) ≡ length stack
-  pub terminals-are : terminals_on (reverse stack) ≡ terminals_on stack
-  pub marks-are : marks (reverse stack) ≡ marks stack
-  pub symbols-are : map unmarked (reverse stack) ≡ stack_symbols stack
+  pub length_is : length (reverse stack) ≡ length stack
+  pub terminals_are : terminals_on (reverse stack) ≡ terminals_on stack
+  pub marks_are : marks (reverse stack) ≡ marks stack
+  pub symbols_are : map unmarked (reverse stack) ≡ stack_symbols stack
 
 pub rising-stack : (stack : List (Entry Span)) → Rising stack
 rising-stack stack = record {
   words_are = words-rising stack [] ∙ append-nil (stack_words stack);
   size_is = sum-reverse stack_size (λ x. size (unmarked x)) refl (λ x entries. omega arith) stack;
-  length-is = length-reverse stack;
-  terminals-are = sum-reverse terminals_on (λ x. terminals_on (x ∷ [])) refl terminals-one stack;
-  marks-are = sum-reverse marks mark_word refl (λ x entries. omega arith) stack;
-  symbols-are = symbols-rising stack [] ∙ append-nil (stack_symbols stack);
+  length_is = length-reverse stack;
+  terminals_are = sum-reverse terminals_on (λ x. terminals_on (x ∷ [])) refl terminals-one stack;
+  marks_are = sum-reverse marks mark_word refl (λ x entries. omega arith) stack;
+  symbols_are = symbols-rising stack [] ∙ append-nil (stack_symbols stack);
 }
 
 -- no mark stands on a #, from either end
 fine-first : {x : Entry Span} {entries : List (Entry Span)} → MarksFine (x ∷ entries) → MarksFine (x ∷ [])
-fine-first (fine-nonterminal f) = fine-nonterminal fine-empty
-fine-first (fine-unmarked f) = fine-unmarked fine-empty
-fine-first (fine-marked i f) = fine-marked i fine-empty
+fine-first (fine_nonterminal f) = fine_nonterminal fine_empty
+fine-first (fine_unmarked f) = fine_unmarked fine_empty
+fine-first (fine_marked i f) = fine_marked i fine_empty
 
 fine-rest : {x : Entry Span} {entries : List (Entry Span)} → MarksFine (x ∷ entries) → MarksFine entries
-fine-rest (fine-nonterminal f) = f
-fine-rest (fine-unmarked f) = f
-fine-rest (fine-marked i f) = f
+fine-rest (fine_nonterminal f) = f
+fine-rest (fine_unmarked f) = f
+fine-rest (fine_marked i f) = f
 
 fine-cons : {x : Entry Span} {entries : List (Entry Span)} → MarksFine (x ∷ []) → MarksFine entries → MarksFine (x ∷ entries)
-fine-cons (fine-nonterminal g) f = fine-nonterminal f
-fine-cons (fine-unmarked g) f = fine-unmarked f
-fine-cons (fine-marked i g) f = fine-marked i f
+fine-cons (fine_nonterminal g) f = fine_nonterminal f
+fine-cons (fine_unmarked g) f = fine_unmarked f
+fine-cons (fine_marked i g) f = fine_marked i f
 
 fine-rising : (stack above : List (Entry Span)) → MarksFine stack → MarksFine above → MarksFine (reverse_aux stack above)
 fine-rising [] above f g = g
 fine-rising (x ∷ stack) above f g = fine-rising stack (x ∷ above) (fine-rest f) (fine-cons (fine-first f) g)
 
 pub fine-reverse : (stack : List (Entry Span)) → MarksFine stack → MarksFine (reverse stack)
-fine-reverse stack f = fine-rising stack [] f fine-empty
+fine-reverse stack f = fine-rising stack [] f fine_empty
 
 -- ---- unread symbols, as entries unmarked
 
@@ -91,35 +91,35 @@ plain (nonterminal_at k v) = nonterminal_on k v
 pub record Plain (unread : List (Unread Span)) : Type 0 where
   pub words_are : rising_words (map plain unread) ≡ unread_words unread
   pub size_is : stack_size (map plain unread) ≡ unread_size unread
-  pub length-is : length (map plain unread) ≡ length unread
-  pub terminals-are : terminals_on (map plain unread) ≡ terminals_unread unread
-  pub no-marks : marks (map plain unread) ≡ 0
-  pub symbols-are : map unmarked (map plain unread) ≡ unread
+  pub length_is : length (map plain unread) ≡ length unread
+  pub terminals_are : terminals_on (map plain unread) ≡ terminals_unread unread
+  pub no_marks : marks (map plain unread) ≡ 0
+  pub symbols_are : map unmarked (map plain unread) ≡ unread
   pub fine : MarksFine (map plain unread)
 
 pub plain-unread : (unread : List (Unread Span)) → Plain unread
-plain-unread [] = record { words_are = refl; size_is = refl; length-is = refl; terminals-are = refl; no-marks = refl; symbols-are = refl; fine = fine-empty }
+plain-unread [] = record { words_are = refl; size_is = refl; length_is = refl; terminals_are = refl; no_marks = refl; symbols_are = refl; fine = fine_empty }
 plain-unread (terminal_at a v ∷ unread) =
     let r = plain-unread unread in
     record {
       words_are = ap (λ l. block 0 (terminal_at a v) ++ l) r.words_are;
       size_is = omega (arith, r.size_is);
-      length-is = omega (arith, r.length-is);
-      terminals-are = omega (arith, r.terminals-are);
-      no-marks = omega (arith, r.no-marks);
-      symbols-are = ap {B = List (Unread Span)} (λ l. terminal_at a v ∷ l) r.symbols-are;
-      fine = fine-unmarked r.fine;
+      length_is = omega (arith, r.length_is);
+      terminals_are = omega (arith, r.terminals_are);
+      no_marks = omega (arith, r.no_marks);
+      symbols_are = ap {B = List (Unread Span)} (λ l. terminal_at a v ∷ l) r.symbols_are;
+      fine = fine_unmarked r.fine;
     }
 plain-unread (nonterminal_at k v ∷ unread) =
     let r = plain-unread unread in
     record {
       words_are = ap (λ l. block 0 (nonterminal_at k v) ++ l) r.words_are;
       size_is = omega (arith, r.size_is);
-      length-is = omega (arith, r.length-is);
-      terminals-are = r.terminals-are;
-      no-marks = omega (arith, r.no-marks);
-      symbols-are = ap {B = List (Unread Span)} (λ l. nonterminal_at k v ∷ l) r.symbols-are;
-      fine = fine-nonterminal r.fine;
+      length_is = omega (arith, r.length_is);
+      terminals_are = r.terminals_are;
+      no_marks = omega (arith, r.no_marks);
+      symbols_are = ap {B = List (Unread Span)} (λ l. nonterminal_at k v ∷ l) r.symbols_are;
+      fine = fine_nonterminal r.fine;
     }
 
 -- entries without a mark are those of their symbols
@@ -134,16 +134,16 @@ plain_of (nonterminal_on k v ∷ entries) h = ap {B = List (Entry Span)} (λ l. 
 pub placed_of : {t N n s e : ℕ} (entries : List (Entry Span)) → Tiles n s (map unmarked entries) e → AllInRange t N (map unmarked entries) → MarksFine entries
     → Placed t N n s entries e
 placed_of [] tiled r f = no_more refl
-placed_of {s = s} (x ∷ entries) (tile l p) (in-range i r) f = then-stands (record { lies = l; ranged = i; fine = fine-first f }) (placed_of {s = s + size (unmarked x)} entries p r (fine-rest f))
+placed_of {s = s} (x ∷ entries) (tile l p) (in_range i r) f = then_stands (record { lies = l; ranged = i; fine = fine-first f }) (placed_of {s = s + size (unmarked x)} entries p r (fine-rest f))
 
 pub tiles-of : {t N n s e : ℕ} {entries : List (Entry Span)} → Placed t N n s entries e → Tiles n s (map unmarked entries) e
 tiles-of (no_more q) = rw q tiled
-tiles-of (then-stands h p) = tile h.lies (tiles-of p)
+tiles-of (then_stands h p) = tile h.lies (tiles-of p)
 
 pub ranged-of : {t N n s e : ℕ} {entries : List (Entry Span)} → Placed t N n s entries e → AllInRange t N (map unmarked entries)
 ranged-of (no_more q) = none_left
-ranged-of (then-stands h p) = in-range h.ranged (ranged-of p)
+ranged-of (then_stands h p) = in_range h.ranged (ranged-of p)
 
 pub fine_of : {t N n s e : ℕ} {entries : List (Entry Span)} → Placed t N n s entries e → MarksFine entries
-fine_of (no_more q) = fine-empty
-fine_of (then-stands h p) = fine-cons h.fine (fine_of p)
+fine_of (no_more q) = fine_empty
+fine_of (then_stands h p) = fine-cons h.fine (fine_of p)

@@ -32,13 +32,13 @@ use Rattle.shape.specs.Encoded.{area, slots_from}
 -- ---- the counts of a walk
 
 pub record Counts (chunks : List (Option (Chunk Span))) (w : Walk) : Type 0 where
-  pub ok-is : w.ok ≡ true
-  pub at-is : w.at ≡ total chunks
-  pub live-is : w.live ≡ length (live chunks)
-  pub running-is : w.running ≡ running_in (live chunks)
-  pub unread-is : w.unread ≡ unread_in (live chunks)
-  pub symbols-are : w.symbols ≡ symbols_in (live chunks)
-  pub terminals-are : w.terminals ≡ terminals_in (live chunks)
+  pub ok_is : w.ok ≡ true
+  pub at_is : w.at ≡ total chunks
+  pub live_is : w.live ≡ length (live chunks)
+  pub running_is : w.running ≡ running_in (live chunks)
+  pub unread_is : w.unread ≡ unread_in (live chunks)
+  pub symbols_are : w.symbols ≡ symbols_in (live chunks)
+  pub terminals_are : w.terminals ≡ terminals_in (live chunks)
 
 -- chunks that fit end within the slots
 pub total-within : {t N n : ℕ} {chunks : List (Option (Chunk Span))} → AllFit t N n 0 chunks → total chunks ≤ n + 2
@@ -53,18 +53,18 @@ walk-counts {t} {N} {n} {chunks} few f words after beyond n-is c-is d b =
     let r = counted-all chunks fresh refl in
     rw (c-is, walk-passes t N n few words n-is f 5 fresh after beyond refl refl (omega (arith, total-within f)) d b)
     (record {
-      ok-is = r.ok-then;
-      at-is = omega (arith, r.at-then);
-      live-is = omega (arith, r.live_then);
-      running-is = omega (arith, r.running-then);
-      unread-is = omega (arith, r.unread-then);
-      symbols-are = omega (arith, r.symbols-then);
-      terminals-are = omega (arith, r.terminals-then);
+      ok_is = r.ok_then;
+      at_is = omega (arith, r.at_then);
+      live_is = omega (arith, r.live_then);
+      running_is = omega (arith, r.running_then);
+      unread_is = omega (arith, r.unread_then);
+      symbols_are = omega (arith, r.symbols_then);
+      terminals_are = omega (arith, r.terminals_then);
     })
 
 -- (j)
 pub potential-is : {chunks : List (Option (Chunk Span))} {w : Walk} → Counts chunks w → potential_of w ≡ potential_in (live chunks)
-potential-is c = rw (c.unread-is, c.symbols-are, c.live-is, c.terminals-are, c.running-is)
+potential-is c = rw (c.unread_is, c.symbols_are, c.live_is, c.terminals_are, c.running_is)
 
 -- ---- (d) chunk 0, and (e) the last end
 
@@ -78,12 +78,12 @@ stack_some (x ∷ stack) h = omega arith
 
 -- the two ways to end, as numbers
 data EndView (n : ℕ) (chunks : List (Chunk Span)) (end : ℕ) : Type 0 where
-  whole-view : end ≡ n + 2 → LastHolds chunks → EndView n chunks end
-  accepted-view : end ≡ n + 1 → length chunks ≡ 1 → unread_in chunks ≡ 0 → EndView n chunks end
+  whole_view : end ≡ n + 2 → LastHolds chunks → EndView n chunks end
+  accepted_view : end ≡ n + 1 → length chunks ≡ 1 → unread_in chunks ≡ 0 → EndView n chunks end
 
 end-view : {n end : ℕ} {chunks : List (Chunk Span)} → Ending n chunks end → EndView n chunks end
-end-view (whole h) = whole-view refl h
-end-view (accepted {c = c} q) = accepted-view refl refl (omega (arith, ap length q))
+end-view (whole h) = whole_view refl h
+end-view (accepted {c = c} q) = accepted_view refl refl (omega (arith, ap length q))
 
 accepted-of : (n : ℕ) (c : Chunk Span) (others : List (Chunk Span)) → length others ≡ 0 → c.unread ≡ [] → Ending n (c ∷ others) (n + 1)
 accepted-of n c [] l q = accepted q
@@ -122,13 +122,13 @@ module _ (n moves : ℕ) (reductions : List (Reduction Span)) (rest : List ℕ) 
   end-tested : {chunks : List (Option (Chunk Span))} {w : Walk} → FirstLive chunks → Counts chunks w → EndView n (live chunks) (total chunks)
       → end_fits (with chunks) w ≡ true
   unfolding encode
-  end-tested {w = w} f k (whole-view q h) = rw (eq-eqb w.at (n + 2) (k.at-is ∙ q))
-  end-tested {w = w} (first_live {c = c} {chunks = chunks} f) k (accepted-view q l u) =
+  end-tested {w = w} f k (whole_view q h) = rw (eq-eqb w.at (n + 2) (k.at_is ∙ q))
+  end-tested {w = w} (first_live {c = c} {chunks = chunks} f) k (accepted_view q l u) =
       let all-else : total chunks ≡ 0 = none-total chunks (omega arith) in
-      let nothing-unread : unread_size c.unread ≡ 0 = none-size c.unread (omega arith) in
+      let nothing_unread : unread_size c.unread ≡ 0 = none-size c.unread (omega arith) in
       let head-is : 0 + stack_size c.stack ≡ n + 1 = omega arith in
       either_true (eqb w.at (n + 2))
-      (rw (eq-eqb w.at (n + 1) (k.at-is ∙ q), eq-eqb w.live 1 (k.live-is ∙ l), eq-eqb (0 + stack_size c.stack) (n + 1) head-is))
+      (rw (eq-eqb w.at (n + 1) (k.at_is ∙ q), eq-eqb w.live 1 (k.live_is ∙ l), eq-eqb (0 + stack_size c.stack) (n + 1) head-is))
 
   pub end-to : {chunks : List (Option (Chunk Span))} {w : Walk} → FirstLive chunks → Counts chunks w → Ending n (live chunks) (total chunks)
       → end_fits (with chunks) w ≡ true
@@ -146,11 +146,11 @@ module _ (n moves : ℕ) (reductions : List (Reduction Span)) (rest : List ℕ) 
       tests = eqb w.at (n + 1) ∷ eqb w.live 1 ∷ eqb (0 + stack_size c.stack) (n + 1) ∷ []
 
       go : (b : Bool) → eqb w.at (n + 2) ≡ b → pick b true (all_of tests) ≡ true → Ending n (live all) (total all)
-      go true q h = let e : total all ≡ n + 2 = sym k.at-is ∙ eqb-true w.at (n + 2) q in rw e (whole (last-from a (omega arith) (omega arith)))
+      go true q h = let e : total all ≡ n + 2 = sym k.at_is ∙ eqb-true w.at (n + 2) q in rw e (whole (last-from a (omega arith) (omega arith)))
       go false q h =
           let es = each_of tests h in
-          let e : total all ≡ n + 1 = sym k.at-is ∙ eqb-true w.at (n + 1) es.0 in
-          let l : length (live all) ≡ 1 = sym k.live-is ∙ eqb-true w.live 1 es.1.0 in
+          let e : total all ≡ n + 1 = sym k.at_is ∙ eqb-true w.at (n + 1) es.0 in
+          let l : length (live all) ≡ 1 = sym k.live_is ∙ eqb-true w.live 1 es.1.0 in
           let head-is : 0 + stack_size c.stack ≡ n + 1 = eqb-true (0 + stack_size c.stack) (n + 1) es.1.1.0 in
           rw e (accepted-of n c (live chunks) (omega arith) (no-slots c.unread (omega arith)))
 

@@ -23,8 +23,8 @@ use Rattle.shape.specs.Encoded.{area, slots_from, from_slots, from_unused_slots,
 use Rattle.shape.specs.Encoded.{count_at, table-at, slots-at, unused-slots-at, unused-made-at}
 use Rattle.shape.specs.Rules.{Counts, walk-counts, potential-is, first_to, end-to, blank-zeros}
 
-some-chunk : {chunks : List (Option (Chunk Span))} → FirstLive chunks → 1 ≤ length chunks
-some-chunk (first_live h) = omega arith
+some_chunk : {chunks : List (Option (Chunk Span))} → FirstLive chunks → 1 ≤ length chunks
+some_chunk (first_live h) = omega arith
 
 module _ {t N n : ℕ} {s : State Span} (few : t < 256) (k : Kept t N n s) (rest : List ℕ) where
   abbrev words : List ℕ
@@ -43,15 +43,15 @@ module _ {t N n : ℕ} {s : State Span} (few : t < 256) (k : Kept t N n s) (rest
       rw (
         tokens-at n s rest,
         chunks-at n s rest,
-        le-leb 1 n k.some-token,
-        le-leb n 16384 k.few-tokens,
-        le-leb 1 (length s.chunks) (some-chunk k.first),
-        le-leb (length s.chunks) 64 k.few-chunks,
+        le-leb 1 n k.some_token,
+        le-leb n 16384 k.few_tokens,
+        le-leb 1 (length s.chunks) (some_chunk k.first),
+        le-leb (length s.chunks) 64 k.few_chunks,
         le-leb (need n (length s.chunks)) (length words) (omega (arith, length-append (encode n s) rest, encode-length k)),
       )
 
   rule-i : rule_i words walk ≡ true
-  rule-i = rw (count_at n s rest, counts.terminals-are, tokens-at n s rest) (le-leb (length s.reductions + terminals_in (live s.chunks)) n k.room)
+  rule-i = rw (count_at n s rest, counts.terminals_are, tokens-at n s rest) (le-leb (length s.reductions + terminals_in (live s.chunks)) n k.room)
 
   rule-j : rule_j words walk ≡ true
   rule-j =
@@ -67,7 +67,7 @@ module _ {t N n : ℕ} {s : State Span} (few : t < 256) (k : Kept t N n s) (rest
   unused-made made tokens q r = rw (q, r, unused-made-at n s rest (within-slots k)) (blank-zeros (3 * (n - length s.reductions)) rest)
 
   rule-k : rule_k words walk ≡ true
-  rule-k = rw (unused-slots _ counts.at-is) (unused-made _ _ (count_at n s rest) (tokens-at n s rest))
+  rule-k = rw (unused-slots _ counts.at_is) (unused-made _ _ (count_at n s rest) (tokens-at n s rest))
 
   pub shape-complete : area_in_shape t N (encode n s ++ rest) ≡ true
   unfolding area_in_shape
@@ -76,4 +76,4 @@ module _ {t N n : ℕ} {s : State Span} (few : t < 256) (k : Kept t N n s) (rest
       let last = end-to n s.moves s.reductions rest k.first counts (rw (total-is k) k.ending) in
       rw rule-c
       (of-each (walk.ok ∷ first_fits words ∷ end_fits words walk ∷ rule_i words walk ∷ rule_j words walk ∷ rule_k words walk ∷ [])
-      (counts.ok-is, (first, (last, (rule-i, (rule-j, (rule-k, tt)))))))
+      (counts.ok_is, (first, (last, (rule-i, (rule-j, (rule-k, tt)))))))

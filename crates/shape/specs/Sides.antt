@@ -27,12 +27,12 @@ rising_words (x ∷ entries) = block (mark_word x) (unmarked x) ++ rising_words 
 -- entries side by side on the slots from s up to e
 pub data Placed (t N n : ℕ) : ℕ → List (Entry Span) → ℕ → Type 0 where
   no_more : {s e : ℕ} → s ≡ e → Placed t N n s [] e
-  then-stands : {s e : ℕ} {x : Entry Span} {entries : List (Entry Span)} → EntryStands t N n s x → Placed t N n (s + size (unmarked x)) entries e
+  then_stands : {s e : ℕ} {x : Entry Span} {entries : List (Entry Span)} → EntryStands t N n s x → Placed t N n (s + size (unmarked x)) entries e
       → Placed t N n s (x ∷ entries) e
 
 pub placed_end : {t N n s e : ℕ} {entries : List (Entry Span)} → Placed t N n s entries e → e ≡ s + stack_size entries
 placed_end (no_more q) = omega arith
-placed_end (then-stands st p) = omega (arith, placed_end p)
+placed_end (then_stands st p) = omega (arith, placed_end p)
 
 -- ---- entries in place pass the scan
 
@@ -43,7 +43,7 @@ passed_all st (x ∷ entries) = passed_all (passed_over st x) entries
 scan-entries : {t N n slot e : ℕ} {entries : List (Entry Span)} → t < 256 → Placed t N n slot entries e → (st : Scan) (words : List ℕ) → st.ok ≡ true
     → st.within ≡ 0 → scanned t N n (stack_size entries) slot (rising_words entries ++ words) st ≡ passed_all st entries
 scan-entries few (no_more q) st words o i = refl
-scan-entries {t} {N} {n} {slot} few (then-stands {x = x} {entries = entries} h p) st words o i =
+scan-entries {t} {N} {n} {slot} few (then_stands {x = x} {entries = entries} h p) st words o i =
     let e : stack_size entries + size (unmarked x) ≡ size (unmarked x) + stack_size entries = omega arith in
     rw (e, append_assoc (block (mark_word x) (unmarked x)) (rising_words entries) words)
     (scan-block t N n few (stack_size entries) slot st x (rising_words entries ++ words) o i h ∙ scan-entries few p (passed_over st x) words refl refl)
@@ -51,9 +51,9 @@ scan-entries {t} {N} {n} {slot} few (then-stands {x = x} {entries = entries} h p
 -- a scan that has passed all of these entries and no more
 pub record Scanned (entries : List (Entry Span)) (st : Scan) : Type 0 where
   pub fits : side_fits st ≡ true
-  pub symbols-are : st.symbols ≡ length entries
-  pub terminals-are : st.terminals ≡ terminals_on entries
-  pub marks-are : st.marks ≡ marks entries
+  pub symbols_are : st.symbols ≡ length entries
+  pub terminals_are : st.terminals ≡ terminals_on entries
+  pub marks_are : st.marks ≡ marks entries
 
 terminal-count : (t N : ℕ) → t < 256 → (x : Entry Span) → SymbolInRange t N (symbol (unmarked x)) → (entries : List (Entry Span))
     → terminals_on (x ∷ entries) ≡ one_if_terminal (word x) + terminals_on entries
@@ -66,23 +66,23 @@ terminal-count t N few (nonterminal_on k v) r entries =
     rw (ne_eqb (256 + k) 0 (λ h. omega arith), le-ltb (256 + k) 256 (omega arith)) (sym (zero-add (terminals_on entries)))
 
 record Sums (entries : List (Entry Span)) (st st' : Scan) : Type 0 where
-  ok-then : st'.ok ≡ true
-  within-then : st'.within ≡ 0
-  symbols-then : st'.symbols ≡ st.symbols + length entries
-  terminals-then : st'.terminals ≡ st.terminals + terminals_on entries
+  ok_then : st'.ok ≡ true
+  within_then : st'.within ≡ 0
+  symbols_then : st'.symbols ≡ st.symbols + length entries
+  terminals_then : st'.terminals ≡ st.terminals + terminals_on entries
   marks_then : st'.marks ≡ st.marks + marks entries
 
 sums : {t N n slot e : ℕ} {entries : List (Entry Span)} → t < 256 → Placed t N n slot entries e → (st : Scan) → st.ok ≡ true → st.within ≡ 0
     → Sums entries st (passed_all st entries)
-sums few (no_more q) st o i = record { ok-then = o; within-then = i; symbols-then = omega arith; terminals-then = omega arith; marks_then = omega arith }
-sums {t} {N} few (then-stands {x = x} {entries = entries} h p) st o i =
+sums few (no_more q) st o i = record { ok_then = o; within_then = i; symbols_then = omega arith; terminals_then = omega arith; marks_then = omega arith }
+sums {t} {N} few (then_stands {x = x} {entries = entries} h p) st o i =
     let r = sums few p (passed_over st x) refl refl in
     let k = terminal-count t N few x h.ranged entries in
     record {
-      ok-then = r.ok-then;
-      within-then = r.within-then;
-      symbols-then = omega (arith, r.symbols-then);
-      terminals-then = omega (arith, r.terminals-then);
+      ok_then = r.ok_then;
+      within_then = r.within_then;
+      symbols_then = omega (arith, r.symbols_then);
+      terminals_then = omega (arith, r.terminals_then);
       marks_then = omega (arith, r.marks_then);
     }
 
@@ -92,16 +92,16 @@ scan-passes {entries = entries} few p words =
     let r = sums few p fresh_scan refl refl in
     rw (scan-entries few p fresh_scan words refl refl)
     (record {
-      fits = rw (r.ok-then, r.within-then);
-      symbols-are = omega (arith, r.symbols-then);
-      terminals-are = omega (arith, r.terminals-then);
-      marks-are = omega (arith, r.marks_then);
+      fits = rw (r.ok_then, r.within_then);
+      symbols_are = omega (arith, r.symbols_then);
+      terminals_are = omega (arith, r.terminals_then);
+      marks_are = omega (arith, r.marks_then);
     })
 
 -- ---- a scan that passes has read entries in place
 
 record Read (t N n count slot : ℕ) (words : List ℕ) (st : Scan) : Type 0 where
-  ok-now : st.ok ≡ true
+  ok_now : st.ok ≡ true
   entries : List (Entry Span)
   words_are : take (4 * count) words ≡ last_slots st.within st.size ++ rising_words entries
   placed : Placed t N n (slot + st.within) entries (slot + count)
@@ -127,11 +127,11 @@ read-start {t} {N} {n} {slot} count s m l b words st st' o i g u v h x r =
     let z : l - 1 + 1 ≡ l = omega arith in
     let there : slot + st.within ≡ slot = omega arith in
     record {
-      ok-now = o;
+      ok_now = o;
       entries = x.entry ∷ r.entries;
       words_are =
-          rw (four-more count s m l b words, r.words_are, u, v, i, block-slots (mark_word x.entry) (unmarked x.entry), x.word-is, x.mark-is, k, z, g);
-      placed = rw there (then-stands {e = slot + suc count} x.stands (placed_at (omega (arith, x.size_is)) (omega arith) r.placed));
+          rw (four-more count s m l b words, r.words_are, u, v, i, block-slots (mark_word x.entry) (unmarked x.entry), x.word_is, x.mark_is, k, z, g);
+      placed = rw there (then_stands {e = slot + suc count} x.stands (placed_at (omega (arith, x.size_is)) (omega arith) r.placed));
     }
 
 read_more : {t N n slot : ℕ} (count s m l b : ℕ) (words : List ℕ) {st st' : Scan} → SlotView t N n slot st s m l b st' → Read t N n count (slot + 1) words st'
@@ -140,7 +140,7 @@ read_more count s m l b words {st = st} (starts o i h q g) r = read-start count 
 read_more count s m l b words {st = st} (goes_on o i p q k g) r =
     let e : st.within ≡ suc (st.within - 1) = omega arith in
     record {
-      ok-now = o;
+      ok_now = o;
       entries = r.entries;
       words_are = rw (four-more count s m l b words, r.words_are, p, q, k, g) (ap (λ j. last_slots j st.size ++ rising_words r.entries) (sym e));
       placed = placed_at (omega arith) (omega arith) r.placed;
@@ -150,14 +150,14 @@ read_all : {t N n : ℕ} (count slot : ℕ) (words : List ℕ) (st : Scan) → 4
     → Read t N n count slot words st
 read_all zero slot words st h e =
     let p = side_fits-to st e in
-    record { ok-now = p.0; entries = []; words_are = rw p.1; placed = no_more {s = slot + st.within} {e = slot + 0} (omega (arith, p.1)) }
+    record { ok_now = p.0; entries = []; words_are = rw p.1; placed = no_more {s = slot + st.within} {e = slot + 0} (omega (arith, p.1)) }
 read_all (suc count) slot [] st h e = absurd (omega arith)
 read_all (suc count) slot (s ∷ []) st h e = absurd (omega arith)
 read_all (suc count) slot (s ∷ m ∷ []) st h e = absurd (omega arith)
 read_all (suc count) slot (s ∷ m ∷ l ∷ []) st h e = absurd (omega arith)
 read_all {t} {N} {n} (suc count) slot (s ∷ m ∷ l ∷ b ∷ words) st h e =
     let r = read_all count (slot + 1) words (scan_slot t N n slot st s m l b) (omega arith) e in
-    read_more count s m l b words (slot-view t N n slot st s m l b r.ok-now) r
+    read_more count s m l b words (slot-view t N n slot st s m l b r.ok_now) r
 
 -- the slots of a side, as entries in place
 pub record HoldsEntries (t N n from to : ℕ) (words : List ℕ) : Type 0 where

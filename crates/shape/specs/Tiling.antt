@@ -11,7 +11,7 @@ use Rattle.language.specs.Trees.{Span}
 use Rattle.machine.specs.Entries.{Unread, nonterminal_at, symbol, value_of}
 use Rattle.machine.specs.Spans.{last_after, span_of}
 use Rattle.layout.specs.Layout.{size, span_at}
-use Rattle.layout.specs.Kept.{Lies, first-end, last_end, within, Tiles, tiled, tile, AllInRange, none_left, in-range}
+use Rattle.layout.specs.Kept.{Lies, first_end, last_end, within, Tiles, tiled, tile, AllInRange, none_left, in_range}
 use Rattle.layout.specs.Lengths.{no-slots, tiles-end}
 
 -- ---- parts of a row side by side
@@ -34,16 +34,16 @@ module _ {n : ℕ} where
 module _ {t k : ℕ} where
   pub ranged-split : (xs ys : List (Unread Span)) → AllInRange t k (xs ++ ys) → AllInRange t k xs × AllInRange t k ys
   ranged-split [] ys r = (none_left, r)
-  ranged-split (x ∷ xs) ys (in-range i r) = let p = ranged-split xs ys r in (in-range i p.0, p.1)
+  ranged-split (x ∷ xs) ys (in_range i r) = let p = ranged-split xs ys r in (in_range i p.0, p.1)
 
   pub ranged-join : {xs ys : List (Unread Span)} → AllInRange t k xs → AllInRange t k ys → AllInRange t k (xs ++ ys)
   ranged-join none_left r = r
-  ranged-join (in-range i q) r = in-range i (ranged-join q r)
+  ranged-join (in_range i q) r = in_range i (ranged-join q r)
 
 -- what # after # and one symbol tells of a row: nothing stands before them or after
 pub record EndRead (n : ℕ) (before after : List (Unread Span)) (x d : Unread Span) : Type 0 where
-  pub no-before : before ≡ []
-  pub no-after : after ≡ []
+  pub no_before : before ≡ []
+  pub no_after : after ≡ []
   pub tiles : Tiles n 0 (x ∷ d ∷ []) (n + 1)
 
 -- ---- one symbol
@@ -59,25 +59,25 @@ span-of-slots (nonterminal j) s k h = refl
 module _ {n : ℕ} where
   -- a symbol starts on a slot of the row
   pub starts-within : {s : ℕ} {x : Unread Span} → Lies n s x → s ≤ n + 1
-  starts-within (first-end q e v) = omega arith
+  starts-within (first_end q e v) = omega arith
   starts-within (last_end q e v) = omega arith
   starts-within (within p h e v) = omega arith
 
   -- another symbol than # stands after slot 0
   after_first : {s : ℕ} {x : Unread Span} → (symbol x ≡ terminal 0 → ⊥) → Lies n s x → 0 < s
-  after_first h (first-end q e v) = absurd (h e)
+  after_first h (first_end q e v) = absurd (h e)
   after_first h (last_end q e v) = absurd (h e)
   after_first h (within p l e v) = p
 
   -- # stands in slot 0 or n+1
   end-stands : {s : ℕ} {x : Unread Span} → symbol x ≡ terminal 0 → Lies n s x → 0 < s → s ≡ n + 1
-  end-stands h (first-end q e v) p = absurd (omega arith)
+  end-stands h (first_end q e v) p = absurd (omega arith)
   end-stands h (last_end q e v) p = q
   end-stands h (within l m e v) p = absurd (e h)
 
   -- between slots 0 and n+1 a symbol's value is the span of its slots
   inner-value : {s : ℕ} {x : Unread Span} → 0 < s → s + size x ≤ n + 1 → Lies n s x → value_of x ≡ record { first = s - 1; after = (s - 1) + size x }
-  inner-value p h (first-end q e v) = absurd (omega arith)
+  inner-value p h (first_end q e v) = absurd (omega arith)
   inner-value p h (last_end q e v) = absurd (omega arith)
   inner-value {s} {x} p h (within l m e v) = v ∙ span-of-slots (symbol x) s (size x) e
 
@@ -126,7 +126,7 @@ module _ {n : ℕ} where
   -- ---- the # of the end
 
   first-stands : {s : ℕ} {x : Unread Span} → symbol x ≡ terminal 0 → Lies n s x → s < n + 1 → s ≡ 0
-  first-stands h (first-end q e v) p = q
+  first-stands h (first_end q e v) p = q
   first-stands h (last_end q e v) p = absurd (omega arith)
   first-stands h (within l m e v) p = absurd (e h)
 
@@ -145,7 +145,7 @@ module _ {n : ℕ} where
           let first : m ≡ 0 = first-stands hx lx (omega arith) in
           let from : 0 + size x + size d ≡ n + 1 = omega arith in
           record {
-            no-before = no-slots before (omega (arith, tiles-end u));
-            no-after = nothing-after (omega arith) ta;
+            no_before = no-slots before (omega (arith, tiles-end u));
+            no_after = nothing-after (omega arith) ta;
             tiles = rw (← from) (rw first at (tile lx (tile ld tiled)));
           }

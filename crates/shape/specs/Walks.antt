@@ -24,7 +24,7 @@ use Rattle.results.specs.Bounded.{one_if_running, unread_in, symbols_in, termina
 use Rattle.area.specs.declared.shape.Scan.{Scan}
 use Rattle.area.specs.declared.shape.Walk.{Walk}
 use Rattle.layout.specs.Layout.{stack_size, stack_words, marks, unread_size, unread_words, chunk_size, chunk_words, status_word, row, total, rows, slots}
-use Rattle.layout.specs.Kept.{StuckFine, not_stuck, stuck-fine}
+use Rattle.layout.specs.Kept.{StuckFine, not_stuck, stuck_fine}
 use Rattle.layout.specs.Lengths.{length-stack, length-chunk, length-row}
 use Rattle.shape.specs.Encoded.{slots_from, slots-past}
 use Rattle.area.specs.Shape.{side, status_fits, bounds_fit, stuck_fits, sides_fit, counted, line_of, walked}
@@ -34,15 +34,15 @@ use Rattle.shape.specs.Rising.{rising-stack, plain, plain-unread}
 -- a live chunk whose first slot is `from`, by rules (d) to (h)
 pub record ChunkFits (t N n from : ℕ) (c : Chunk Span) : Type 0 where
   pub begins : from ≤ n + 1
-  pub stack-stands : Placed t N n from (reverse c.stack) (from + stack_size c.stack)
-  pub unread-stands : Placed t N n (from + stack_size c.stack) (map plain c.unread) (from + (stack_size c.stack + unread_size c.unread))
-  pub stuck-fine : StuckFine c
+  pub stack_stands : Placed t N n from (reverse c.stack) (from + stack_size c.stack)
+  pub unread_stands : Placed t N n (from + stack_size c.stack) (map plain c.unread) (from + (stack_size c.stack + unread_size c.unread))
+  pub stuck_fine : StuckFine c
 
 -- chunks one after the other, the first at slot `from`
 pub data AllFit (t N n : ℕ) : ℕ → List (Option (Chunk Span)) → Type 0 where
-  no-more-fit : {from : ℕ} → AllFit t N n from []
+  no_more_fit : {from : ℕ} → AllFit t N n from []
   gone-fits : {from : ℕ} {chunks : List (Option (Chunk Span))} → AllFit t N n from chunks → AllFit t N n from (none ∷ chunks)
-  live-fits : {from : ℕ} {c : Chunk Span} {chunks : List (Option (Chunk Span))} → ChunkFits t N n from c → AllFit t N n (from + chunk_size (some c)) chunks
+  live_fits : {from : ℕ} {c : Chunk Span} {chunks : List (Option (Chunk Span))} → ChunkFits t N n from c → AllFit t N n (from + chunk_size (some c)) chunks
       → AllFit t N n from (some c ∷ chunks)
 
 -- ---- chunks that fit pass the walk
@@ -95,7 +95,7 @@ some-unread (x ∷ unread) h = omega arith
 
 stuck-fits : (c : Chunk Span) (h e : ℕ) → h + unread_size c.unread ≡ e → StuckFine c → stuck_fits (status_word c.status) h e (marks c.stack) ≡ true
 stuck-fits c h e q (not_stuck r) = rw r
-stuck-fits c h e q (stuck-fine u k) = go c.status k
+stuck-fits c h e q (stuck_fine u k) = go c.status k
   where
     more : ltb h e ≡ true
     more = lt-ltb h e (omega (arith, some-unread c.unread u))
@@ -113,8 +113,8 @@ sides-fit {s} {u} c h e ps pu q f =
     rw (
       ps.fits,
       pu.fits,
-      eq-eqb u.marks 0 (pu.marks-are ∙ (plain-unread c.unread).no-marks),
-      eq-eqb (marks c.stack) s.marks (sym (ps.marks-are ∙ (rising-stack c.stack).marks-are)),
+      eq-eqb u.marks 0 (pu.marks_are ∙ (plain-unread c.unread).no_marks),
+      eq-eqb (marks c.stack) s.marks (sym (ps.marks_are ∙ (rising-stack c.stack).marks_are)),
       stuck-fits c h e q f,
     )
 
@@ -126,10 +126,10 @@ counted_is w c e ps pu q =
     rw (
       q,
       status-runs c.status,
-      ps.symbols-are ∙ r.length-is,
-      pu.symbols-are ∙ p.length-is,
-      ps.terminals-are ∙ r.terminals-are,
-      pu.terminals-are ∙ p.terminals-are,
+      ps.symbols_are ∙ r.length_is,
+      pu.symbols_are ∙ p.length_is,
+      ps.terminals_are ∙ r.terminals_are,
+      pu.terminals_are ∙ p.terminals_are,
     )
 
 module _ (t N n : ℕ) (few : t < 256) (area : List ℕ) (n-is : get_or area 0 0 ≡ n) where
@@ -150,11 +150,11 @@ module _ (t N n : ℕ) (few : t < 256) (area : List ℕ) (n-is : get_or area 0 0
       let r = rising-stack c.stack in
       let p = plain-unread c.unread in
       let d₂ = slots-past area from (stack_size c.stack) (stack_words c.stack) (unread_words c.unread ++ words) (length-stack c.stack) d in
-      let s = side-passes (reverse c.stack) (unread_words c.unread ++ words) f.stack-stands (rw r.words_are d) in
-      let u = side-passes (map plain c.unread) words f.unread-stands (rw p.words_are d₂) in
+      let s = side-passes (reverse c.stack) (unread_words c.unread ++ words) f.stack_stands (rw r.words_are d) in
+      let u = side-passes (map plain c.unread) words f.unread_stands (rw p.words_are d₂) in
       let bounds : bounds_fit (get_or area 0 0) w.at from head end ≡ true =
       rw n-is (bounds-fit n w.at from head end q f.begins (omega arith) (omega arith) l) in
-      let sides = sides-fit c head end s u (omega arith) f.stuck-fine in
+      let sides = sides-fit c head end s u (omega arith) f.stuck_fine in
       rw (o, status-word c.status, status-fits c.status, bounds, sides) (counted_is w c end s u (omega arith))
 
   row_read : (i from : ℕ) (c : Option (Chunk Span)) (words : List ℕ) (w : Walk) → drop i area ≡ row from c ++ words
@@ -175,13 +175,13 @@ module _ (t N n : ℕ) (few : t < 256) (area : List ℕ) (n-is : get_or area 0 0
   pub walk-passes : {from : ℕ} {chunks : List (Option (Chunk Span))} → AllFit t N n from chunks → (i : ℕ) (w : Walk) (after beyond : List ℕ)
       → w.ok ≡ true → w.at ≡ from → from + total chunks ≤ n + 2 → drop i area ≡ rows from chunks ++ after → slots_from area from ≡ slots chunks ++ beyond
       → walked t N area (length chunks) i w ≡ walked_all w chunks
-  walk-passes no-more-fit i w after beyond o q l d b = refl
+  walk-passes no_more_fit i w after beyond o q l d b = refl
   walk-passes {from} (gone-fits {chunks = chunks} f) i w after beyond o q l d b =
       let z : from + 0 ≡ from = omega arith in
       let d₂ : drop (i + 5) area ≡ rows from chunks ++ after = rw z at (drop_past area i (i + 5) (row from none) (rows (from + 0) chunks ++ after) refl d) in
       ap (λ v. walked t N area (length chunks) (i + 5) v) (row_read i from none (rows (from + 0) chunks ++ after) w d ∙ line-gone w o)
       ∙ walk-passes f (i + 5) w after beyond o q (omega arith) d₂ b
-  walk-passes {from} (live-fits {c = c} {chunks = chunks} f fs) i w after beyond o q l d b =
+  walk-passes {from} (live_fits {c = c} {chunks = chunks} f fs) i w after beyond o q l d b =
       let e : ℕ = from + chunk_size (some c) in
       let d₂ : drop (i + 5) area ≡ rows e chunks ++ after = drop_past area i (i + 5) (row from (some c)) (rows e chunks ++ after) refl d in
       let b₁ : slots_from area from ≡ chunk_words (some c) ++ (slots chunks ++ beyond) = b ∙ append_assoc (chunk_words (some c)) (slots chunks) beyond in
@@ -194,43 +194,43 @@ module _ (t N n : ℕ) (few : t < 256) (area : List ℕ) (n-is : get_or area 0 0
 -- ---- what the walk has counted
 
 pub record Counted (chunks : List (Option (Chunk Span))) (w w' : Walk) : Type 0 where
-  pub ok-then : w'.ok ≡ true
-  pub at-then : w'.at ≡ w.at + total chunks
+  pub ok_then : w'.ok ≡ true
+  pub at_then : w'.at ≡ w.at + total chunks
   pub live_then : w'.live ≡ w.live + length (live chunks)
-  pub running-then : w'.running ≡ w.running + running_in (live chunks)
-  pub unread-then : w'.unread ≡ w.unread + unread_in (live chunks)
-  pub symbols-then : w'.symbols ≡ w.symbols + symbols_in (live chunks)
-  pub terminals-then : w'.terminals ≡ w.terminals + terminals_in (live chunks)
+  pub running_then : w'.running ≡ w.running + running_in (live chunks)
+  pub unread_then : w'.unread ≡ w.unread + unread_in (live chunks)
+  pub symbols_then : w'.symbols ≡ w.symbols + symbols_in (live chunks)
+  pub terminals_then : w'.terminals ≡ w.terminals + terminals_in (live chunks)
 
 pub counted-all : (chunks : List (Option (Chunk Span))) (w : Walk) → w.ok ≡ true → Counted chunks w (walked_all w chunks)
 counted-all [] w o = record {
-  ok-then = o;
-  at-then = omega arith;
+  ok_then = o;
+  at_then = omega arith;
   live_then = omega arith;
-  running-then = omega arith;
-  unread-then = omega arith;
-  symbols-then = omega arith;
-  terminals-then = omega arith;
+  running_then = omega arith;
+  unread_then = omega arith;
+  symbols_then = omega arith;
+  terminals_then = omega arith;
 }
 counted-all (none ∷ chunks) w o =
     let r = counted-all chunks w o in
     record {
-      ok-then = r.ok-then;
-      at-then = omega (arith, r.at-then);
+      ok_then = r.ok_then;
+      at_then = omega (arith, r.at_then);
       live_then = r.live_then;
-      running-then = r.running-then;
-      unread-then = r.unread-then;
-      symbols-then = r.symbols-then;
-      terminals-then = r.terminals-then;
+      running_then = r.running_then;
+      unread_then = r.unread_then;
+      symbols_then = r.symbols_then;
+      terminals_then = r.terminals_then;
     }
 counted-all (some c ∷ chunks) w o =
     let r = counted-all chunks (walked_over w c) refl in
     record {
-      ok-then = r.ok-then;
-      at-then = omega (arith, r.at-then);
+      ok_then = r.ok_then;
+      at_then = omega (arith, r.at_then);
       live_then = omega (arith, r.live_then);
-      running-then = omega (arith, r.running-then);
-      unread-then = omega (arith, r.unread-then);
-      symbols-then = omega (arith, r.symbols-then);
-      terminals-then = omega (arith, r.terminals-then);
+      running_then = omega (arith, r.running_then);
+      unread_then = omega (arith, r.unread_then);
+      symbols_then = omega (arith, r.symbols_then);
+      terminals_then = omega (arith, r.terminals_then);
     }

@@ -25,18 +25,18 @@ use Rattle.machine.specs.Chunks.{Status, running, stuck, Chunk}
 use Rattle.area.specs.declared.shape.Scan.{Scan}
 use Rattle.area.specs.declared.shape.Walk.{Walk}
 use Rattle.layout.specs.Layout.{stack_size, stack_words, marks, unread_size, unread_words, chunk_size, chunk_words, status_word, row, total, rows, slots, slots_at}
-use Rattle.layout.specs.Kept.{StuckFine, not_stuck, stuck-fine}
+use Rattle.layout.specs.Kept.{StuckFine, not_stuck, stuck_fine}
 use Rattle.shape.specs.Encoded.{slots_from}
 use Rattle.area.specs.Shape.{side, side_fits, status_fits, gone_fits, bounds_fit, stuck_fits, sides_fit, fallen, counted, live_line, line_of, walked}
 use Rattle.shape.specs.Sides.{rising_words, placed_end, placed_at, Scanned, HoldsEntries, scan-reads}
 use Rattle.shape.specs.Rising.{rising-stack, plain-unread, plain_of}
-use Rattle.shape.specs.Walks.{ChunkFits, AllFit, no-more-fit, gone-fits, live-fits, side-passes}
+use Rattle.shape.specs.Walks.{ChunkFits, AllFit, no_more_fit, gone-fits, live_fits, side-passes}
 
 -- ---- one row of the table
 
 -- a row that a walk lets pass: zeros, or a live chunk's
 data LineView (t N : ℕ) (area : List ℕ) (w : Walk) (x f h e y : ℕ) : Walk → Type 0 where
-  gone-line : w.ok ≡ true → x ≡ 0 → gone_fits f h e y ≡ true → LineView t N area w x f h e y w
+  gone_line : w.ok ≡ true → x ≡ 0 → gone_fits f h e y ≡ true → LineView t N area w x f h e y w
   live-line : w.ok ≡ true → status_fits x ≡ true → bounds_fit (get_or area 0 0) w.at f h e ≡ true
       → sides_fit (side t N area f h) (side t N area h e) x h e y ≡ true
       → LineView t N area w x f h e y (counted w (side t N area f h) (side t N area h e) x e)
@@ -60,27 +60,27 @@ module _ (t N : ℕ) (area : List ℕ) (w : Walk) (x f h e y : ℕ) where
     where
       go : (b : Bool) → eqb x 0 ≡ b → w.ok ≡ true → (pick b (pick (gone_fits f h e y) w fallen) (live_line t N area w x f h e y)).ok ≡ true
           → LineView t N area w x f h e y (pick b (pick (gone_fits f h e y) w fallen) (live_line t N area w x f h e y))
-      go true z o q = let p = must-pass is_ok fallen refl (gone_fits f h e y) _ q in rw p.is (gone-line o (eqb-true x 0 z) p.passes)
+      go true z o q = let p = must-pass is_ok fallen refl (gone_fits f h e y) _ q in rw p.is (gone_line o (eqb-true x 0 z) p.passes)
       go false z o q = live_view o q
 
 -- ---- a live chunk's row
 
 record SomeStatus (x : ℕ) : Type 0 where
   status : Status
-  word-is : status_word status ≡ x
+  word_is : status_word status ≡ x
 
 stuck-status : (x k : ℕ) → x ≡ 17 + k → k ≤ 3 → SomeStatus x
-stuck-status x zero q h = record { status = stuck no_relation; word-is = sym q }
-stuck-status x (suc zero) q h = record { status = stuck no_rule; word-is = sym q }
-stuck-status x (suc (suc zero)) q h = record { status = stuck not_axiom; word-is = sym q }
-stuck-status x (suc (suc (suc zero))) q h = record { status = stuck side_by_side; word-is = sym q }
+stuck-status x zero q h = record { status = stuck no_relation; word_is = sym q }
+stuck-status x (suc zero) q h = record { status = stuck no_rule; word_is = sym q }
+stuck-status x (suc (suc zero)) q h = record { status = stuck not_axiom; word_is = sym q }
+stuck-status x (suc (suc (suc zero))) q h = record { status = stuck side_by_side; word_is = sym q }
 stuck-status x (suc (suc (suc (suc k)))) q h = absurd (omega arith)
 
 status-of : (x : ℕ) → status_fits x ≡ true → SomeStatus x
 status-of x = go (eqb x 1) (ltb x 17) refl refl
   where
     go : (b c : Bool) → eqb x 1 ≡ b → ltb x 17 ≡ c → pick b true (pick c false (leb x 20)) ≡ true → SomeStatus x
-    go true c q r h = record { status = running; word-is = sym (eqb-true x 1 q) }
+    go true c q r h = record { status = running; word_is = sym (eqb-true x 1 q) }
     go false true q r h = absurd (false≢true h)
     go false false q r h =
         let low : 17 ≤ x = ltb-false x 17 r in
@@ -95,14 +95,14 @@ stuck-fine-of c h e q = go c.status refl
 
     -- stuck, and not with 18
     other : pick (ltb h e) true false ≡ true → (c.status ≡ stuck no_rule → ◌≡◌ {A = ℕ} 0 1) → StuckFine c
-    other k z = stuck-fine (some (both (ltb h e) true k).passes) (λ r. absurd (omega (arith, z r)))
+    other k z = stuck_fine (some (both (ltb h e) true k).passes) (λ r. absurd (omega (arith, z r)))
 
     go : (s : Status) → c.status ≡ s → stuck_fits (status_word s) h e (marks c.stack) ≡ true → StuckFine c
     go running r k = not_stuck r
     go (stuck no_relation) r k = other k (λ z. cc)
     go (stuck no_rule) r k =
         let p = both (ltb h e) (leb 1 (marks c.stack)) k in
-        stuck-fine (some p.passes) (λ z. leb-true 1 (marks c.stack) p.good)
+        stuck_fine (some p.passes) (λ z. leb-true 1 (marks c.stack) p.good)
     go (stuck not_axiom) r k = other k (λ z. cc)
     go (stuck side_by_side) r k = other k (λ z. cc)
 
@@ -125,7 +125,7 @@ two-parts area s k l =
 record AsStack (entries : List (Entry Span)) : Type 0 where
   words_are : stack_words (reverse entries) ≡ rising_words entries
   size_is : stack_size (reverse entries) ≡ stack_size entries
-  marks-are : marks (reverse entries) ≡ marks entries
+  marks_are : marks (reverse entries) ≡ marks entries
 
 as-stack : (entries : List (Entry Span)) → AsStack entries
 as-stack entries =
@@ -133,7 +133,7 @@ as-stack entries =
     record {
       words_are = sym (rising-stack (reverse entries)).words_are ∙ ap rising_words (reverse-reverse entries);
       size_is = r.size_is;
-      marks-are = r.marks-are;
+      marks_are = r.marks_are;
     }
 
 record AsUnread (entries : List (Entry Span)) : Type 0 where
@@ -163,20 +163,20 @@ module _ (t N n : ℕ) (few : t < 256) (area : List ℕ) (n-is : get_or area 0 0
       let c : Chunk Span = record { stack = stack; unread = unread; status = st.status } in
       let h-is : h ≡ from + stack_size stack = omega (arith, placed_end s.placed, a.size_is) in
       let e-is : e ≡ from + (stack_size stack + unread_size unread) = omega (arith, placed_end u.placed, b.size_is) in
-      let y-is : y ≡ marks stack = m ∙ sym a.marks-are in
+      let y-is : y ≡ marks stack = m ∙ sym a.marks_are in
       let stack-words : take (4 * stack_size stack) (slots_from area from) ≡ stack_words stack = rw a.size_is (s.words_are ∙ sym a.words_are) in
       let unread-words : take (4 * unread_size unread) (slots_from area (from + stack_size stack)) ≡ unread_words unread =
       rw (b.size_is, ← h-is) (u.words_are ∙ sym b.words_are) in
       record {
         chunk = c;
-        row_is = λ j. sym st.word-is j ∷ from ∷ h-is j ∷ e-is j ∷ y-is j ∷ [];
+        row_is = λ j. sym st.word_is j ∷ from ∷ h-is j ∷ e-is j ∷ y-is j ∷ [];
         words_are = two-parts area from (stack_size stack) (unread_size unread) ∙ ap₂ (λ p l. p ++ l) stack-words unread-words;
         end_is = e-is;
         fits = record {
           begins = low;
-          stack-stands = placed_at refl h-is (rw (reverse-reverse s.entries) s.placed);
-          unread-stands = placed_at h-is e-is (rw (plain_of u.entries z) u.placed);
-          stuck-fine = stuck-fine-of c h e (omega arith) (rw (st.word-is, ← y-is) k);
+          stack_stands = placed_at refl h-is (rw (reverse-reverse s.entries) s.placed);
+          unread_stands = placed_at h-is e-is (rw (plain_of u.entries z) u.placed);
+          stuck_fine = stuck-fine-of c h e (omega arith) (rw (st.word_is, ← y-is) k);
         };
       }
 
@@ -199,8 +199,8 @@ module _ (t N n : ℕ) (few : t < 256) (area : List ℕ) (n-is : get_or area 0 0
       let last : e ≤ n + 2 = rw n-is at (leb-true e (get_or area 0 0 + 2) bs.1.1.1.1.0) in
       let s = side-reads f h p (omega arith) ks.0 in
       let u = side-reads h e q last ks.1.0 in
-      let y-is = eqb-true y below.marks ks.1.1.1.0 ∙ (holds-scanned s).marks-are in
-      let none-marked = sym (holds-scanned u).marks-are ∙ eqb-true above.marks 0 ks.1.1.0 in
+      let y-is = eqb-true y below.marks ks.1.1.1.0 ∙ (holds-scanned s).marks_are in
+      let none-marked = sym (holds-scanned u).marks_are ∙ eqb-true above.marks 0 ks.1.1.0 in
       subst (λ v. LiveChunk t N n area v x f h e y) (eqb-true f from bs.0)
       (live-chunk f x h e y (status-of x i) low p q s u y-is none-marked ks.1.1.1.1.0)
 
@@ -208,11 +208,11 @@ module _ (t N n : ℕ) (few : t < 256) (area : List ℕ) (n-is : get_or area 0 0
 
 -- the chunks of the `count` rows from word i on, and of the slots from where the walk stands
 pub record ReadChunks (t N n : ℕ) (area : List ℕ) (count i : ℕ) (w : Walk) : Type 0 where
-  pub ok-now : w.ok ≡ true
+  pub ok_now : w.ok ≡ true
   pub chunks : List (Option (Chunk Span))
-  pub count-is : length chunks ≡ count
+  pub count_is : length chunks ≡ count
   pub table_is : take (5 * count) (drop i area) ≡ rows w.at chunks
-  pub slots-are : take (4 * total chunks) (slots_from area w.at) ≡ slots chunks
+  pub slots_are : take (4 * total chunks) (slots_from area w.at) ≡ slots chunks
   pub all_fit : AllFit t N n w.at chunks
 
 five-more : (count i : ℕ) (area : List ℕ) → i + 5 ≤ length area
@@ -234,12 +234,12 @@ module _ (t N n : ℕ) (few : t < 256) (area : List ℕ) (n-is : get_or area 0 0
   read-gone count i w x f h e y d o z g r =
       let gs = each_of (eqb f 0 ∷ eqb h 0 ∷ eqb e 0 ∷ eqb y 0 ∷ []) g in
       record {
-        ok-now = o;
+        ok_now = o;
         chunks = none ∷ r.chunks;
-        count-is = ap suc r.count-is;
+        count_is = ap suc r.count_is;
         table_is =
             rw (d, z, eqb-true f 0 gs.0, eqb-true h 0 gs.1.0, eqb-true e 0 gs.1.1.0, eqb-true y 0 gs.1.1.1.0, r.table_is, add-zero w.at);
-        slots-are = rw (zero-add (total r.chunks)) r.slots-are;
+        slots_are = rw (zero-add (total r.chunks)) r.slots_are;
         all_fit = gone-fits r.all_fit;
       }
 
@@ -250,28 +250,28 @@ module _ (t N n : ℕ) (few : t < 256) (area : List ℕ) (n-is : get_or area 0 0
   read_live count i w w₁ x f h e y d o q k r =
       let a : ℕ = chunk_size (some k.chunk) in
       let b : ℕ = total r.chunks in
-      let at-is : w₁.at ≡ w.at + a = q ∙ k.end_is in
-      let rest : take (4 * b) (slots_from area (w.at + a)) ≡ slots r.chunks = rw at-is at r.slots-are in
+      let at_is : w₁.at ≡ w.at + a = q ∙ k.end_is in
+      let rest : take (4 * b) (slots_from area (w.at + a)) ≡ slots r.chunks = rw at_is at r.slots_are in
       record {
-        ok-now = o;
+        ok_now = o;
         chunks = some k.chunk ∷ r.chunks;
-        count-is = ap suc r.count-is;
-        table_is = d ∙ ap₂ (λ p l. p ++ l) k.row_is (r.table_is ∙ ap (λ j. rows j r.chunks) at-is);
-        slots-are = two-parts area w.at a b ∙ ap₂ (λ p l. p ++ l) k.words_are rest;
-        all_fit = live-fits k.fits (rw at-is at r.all_fit);
+        count_is = ap suc r.count_is;
+        table_is = d ∙ ap₂ (λ p l. p ++ l) k.row_is (r.table_is ∙ ap (λ j. rows j r.chunks) at_is);
+        slots_are = two-parts area w.at a b ∙ ap₂ (λ p l. p ++ l) k.words_are rest;
+        all_fit = live_fits k.fits (rw at_is at r.all_fit);
       }
 
   read_more : (count i : ℕ) {x f h e y : ℕ} {w w₁ : Walk} → LineView t N area w x f h e y w₁
       → take (5 * suc count) (drop i area) ≡ (x ∷ f ∷ h ∷ e ∷ y ∷ []) ++ take (5 * count) (drop (i + 5) area)
       → ReadChunks t N n area count (i + 5) w₁ → ReadChunks t N n area (suc count) i w
-  read_more count i {x} {f} {h} {e} {y} {w} (gone-line o z g) d r = read-gone count i w x f h e y d o z g r
+  read_more count i {x} {f} {h} {e} {y} {w} (gone_line o z g) d r = read-gone count i w x f h e y d o z g r
   read_more count i {x} {f} {h} {e} {y} {w} (live-line o s b k) d r =
       read_live count i w _ x f h e y d o refl (live-read t N n few area n-is long w.at x f h e y s b k) r
 
   -- a table that the walk lets pass
   pub walk-reads : (count i : ℕ) (w : Walk) → i + 5 * count ≤ length area → (walked t N area count i w).ok ≡ true → ReadChunks t N n area count i w
-  walk-reads zero i w l h = record { ok-now = h; chunks = []; count-is = refl; table_is = refl; slots-are = refl; all_fit = no-more-fit }
+  walk-reads zero i w l h = record { ok_now = h; chunks = []; count_is = refl; table_is = refl; slots_are = refl; all_fit = no_more_fit }
   walk-reads (suc count) i w l h =
       let x : ℕ → ℕ = λ k. get_or area (i + k) 0 in
       let r = walk-reads count (i + 5) (line_of t N area w (get_or area i 0) (x 1) (x 2) (x 3) (x 4)) (omega arith) h in
-      read_more count i (line_view t N area w (get_or area i 0) (x 1) (x 2) (x 3) (x 4) r.ok-now) (five-more count i area (omega arith)) r
+      read_more count i (line_view t N area w (get_or area i 0) (x 1) (x 2) (x 3) (x 4) r.ok_now) (five-more count i area (omega arith)) r

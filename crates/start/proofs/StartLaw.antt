@@ -15,7 +15,7 @@ use Rattle.layout.specs.Layout.{need, zeros}
 use Rattle.start.specs.Start.{start_answer, started_area, start_area}
 use Rattle.start.specs.StartWords.{start_front, start_rows, start_slot, unread_slots, start_slots, start_words, length-start-rows, length-start-slots}
 use Rattle.start.specs.StartWords.{start-words, start-words-length}
-use Rattle.start.specs.StartChecks.{writable, right-cuts}
+use Rattle.start.specs.StartChecks.{writable, right_cuts}
 
 pub slots-last : (area tokens : List ℕ) (at i : ℕ) → length tokens ≤ i → sets area at (unread_slots (drop i tokens)) ≡ sets area at (start_slot 0)
 slots-last area tokens at i h = rw (drop_of_length-le tokens {i = i} h)
@@ -69,4 +69,4 @@ module _ (words matrix tokens cuts area : List ℕ) where
       let room = (writable words matrix tokens cuts (length area) (sym e)).enough in
       let all : 0 + length (start_words tokens cuts) ≡ need (length tokens) (length cuts + 1) = omega arith in
       sets-eq (start_words tokens cuts) area 0 (omega arith)
-      ∙ rw (all, start-words tokens cuts (right-cuts words matrix tokens cuts (length area) (sym e))) (ap (λ answer. started_area answer tokens cuts area) e)
+      ∙ rw (all, start-words tokens cuts (right_cuts words matrix tokens cuts (length area) (sym e))) (ap (λ answer. started_area answer tokens cuts area) e)

@@ -16,7 +16,7 @@ use Rattle.refusals.specs.declared.Answer.{Answer}
 use Rattle.refusals.specs.declared.Answer.TheVariants.{Done, Refused}
 use Rattle.language.specs.Words.{count_t, Outside, outside}
 use Rattle.language.proofs.Words.{outside-iff}
-use Rattle.language.specs.Stages.{Stage, checked, Condition, stages_of, Ready, ready, finding, Given, passes-all, fails, passes, failing}
+use Rattle.language.specs.Stages.{Stage, checked, Condition, stages_of, Ready, ready, finding, Given, passes_all, fails, passes, failing}
 use Rattle.language.proofs.Stages.{given-exactly, failing-finds}
 use Rattle.machine.specs.States.{start}
 use Rattle.layout.specs.Layout.{need, encode}
@@ -34,11 +34,11 @@ pub record StartInput : Type 0 where
 
 -- 15: "grammar, matrix or work area breaks the shape rules", of the grammar and the matrix
 pub data GrammarBroken (input : StartInput) (v : ℕ) : Type 0 where
-  grammar-broken : grammar_in_shape input.words input.matrix ≡ false → v ≡ 0 → GrammarBroken input v
+  grammar_broken : grammar_in_shape input.words input.matrix ≡ false → v ≡ 0 → GrammarBroken input v
 
 -- 7: "no tokens"
 pub data NoTokens (input : StartInput) (v : ℕ) : Type 0 where
-  no-tokens : length input.tokens ≡ 0 → v ≡ 0 → NoTokens input v
+  no_tokens : length input.tokens ≡ 0 → v ≡ 0 → NoTokens input v
 
 -- 8: "more than 16,384"
 pub data TooMany (input : StartInput) (v : ℕ) : Type 0 where
@@ -46,12 +46,12 @@ pub data TooMany (input : StartInput) (v : ℕ) : Type 0 where
 
 -- 9: "outside 1..T", "first such place"
 pub data WrongToken (input : StartInput) (i : ℕ) : Type 0 where
-  wrong-token : i < length input.tokens → Outside 1 (count_t input.words) (get_or input.tokens i 0) → WrongToken input i
+  wrong_token : i < length input.tokens → Outside 1 (count_t input.words) (get_or input.tokens i 0) → WrongToken input i
 
 -- 10: "more than 63 cuts, or a cut below its predecessor or above n", "63, else first bad cut's index"
 pub data WrongCut (input : StartInput) : ℕ → Type 0 where
-  too-many-cuts : 63 < length input.cuts → WrongCut input 63
-  cut-above : {i : ℕ} → length input.cuts ≤ 63 → i < length input.cuts → length input.tokens < get_or input.cuts i 0 → WrongCut input i
+  too_many_cuts : 63 < length input.cuts → WrongCut input 63
+  cut_above : {i : ℕ} → length input.cuts ≤ 63 → i < length input.cuts → length input.tokens < get_or input.cuts i 0 → WrongCut input i
   cut_below : {i : ℕ} → length input.cuts ≤ 63 → suc i < length input.cuts → get_or input.cuts (suc i) 0 < get_or input.cuts i 0 → WrongCut input (suc i)
 
 -- the words that the row needs: n tokens, a chunk more than cuts
@@ -125,14 +125,14 @@ module _ (input : StartInput) where
       go true e = nowhere (λ v g. fine g)
         where
           fine : {v : ℕ} → GrammarBroken input v → ⊥
-          fine (grammar-broken f q) = true≢false (sym e ∙ f)
-      go false e = least (record { holds = grammar-broken e refl; least = λ u h g. absurd (omega arith) })
+          fine (grammar_broken f q) = true≢false (sym e ∙ f)
+      go false e = least (record { holds = grammar_broken e refl; least = λ u h g. absurd (omega arith) })
 
   empty-finds : Finds (NoTokens input) (empty_stage.fails_at input)
-  empty-finds = failing-finds (NoTokens input) (eqb (length input.tokens) 0) 0 (λ e. no-tokens (eqb-true (length input.tokens) 0 e) refl) of
+  empty-finds = failing-finds (NoTokens input) (eqb (length input.tokens) 0) 0 (λ e. no_tokens (eqb-true (length input.tokens) 0 e) refl) of
     where
       of : (u : ℕ) → NoTokens input u → (eqb (length input.tokens) 0 ≡ true) × (u ≡ 0)
-      of u (no-tokens e q) = (rw e, q)
+      of u (no_tokens e q) = (rw e, q)
 
   length-finds : Finds (TooMany input) (length_stage.fails_at input)
   length-finds = failing-finds (TooMany input) (ltb 16384 (length input.tokens)) 0 (λ e. too_many (ltb-true 16384 (length input.tokens) e) refl) of
@@ -143,10 +143,10 @@ module _ (input : StartInput) where
   tokens-find : Finds (WrongToken input) (token_stage.fails_at input)
   tokens-find =
       first_finds (bad_token_at (count_t input.words) input.tokens) (length input.tokens) (WrongToken input)
-      (λ i h e. wrong-token h ((outside-iff 1 (count_t input.words) (get_or input.tokens i 0)).0 e)) of
+      (λ i h e. wrong_token h ((outside-iff 1 (count_t input.words) (get_or input.tokens i 0)).0 e)) of
     where
       of : (i : ℕ) → WrongToken input i → (i < length input.tokens) × (bad_token_at (count_t input.words) input.tokens i ≡ true)
-      of i (wrong-token h o) = (h, (outside-iff 1 (count_t input.words) (get_or input.tokens i 0)).1 o)
+      of i (wrong_token h o) = (h, (outside-iff 1 (count_t input.words) (get_or input.tokens i 0)).1 o)
 
   cut-to : (i : ℕ) → length input.cuts ≤ 63 → i < length input.cuts → bad_cut_at (length input.tokens) input.cuts i ≡ true → WrongCut input i
   cut-to i few h = go (ltb (length input.tokens) (get_or input.cuts i 0)) refl
@@ -157,7 +157,7 @@ module _ (input : StartInput) where
 
       go : (b : Bool) → ltb (length input.tokens) (get_or input.cuts i 0) ≡ b
           → (b || cut_falls input.cuts i) ≡ true → WrongCut input i
-      go true q e = cut-above few h (ltb-true (length input.tokens) (get_or input.cuts i 0) q)
+      go true q e = cut_above few h (ltb-true (length input.tokens) (get_or input.cuts i 0) q)
       go false q e = falls i h e
 
   above-bad : (i : ℕ) → length input.tokens < get_or input.cuts i 0 → bad_cut_at (length input.tokens) input.cuts i ≡ true
@@ -174,20 +174,20 @@ module _ (input : StartInput) where
   cuts-find = go (ltb 63 (length input.cuts)) refl
     where
       many : 63 < length input.cuts → (u : ℕ) → WrongCut input u → u ≡ 63
-      many h u (too-many-cuts k) = refl
-      many h u (cut-above few i a) = absurd (omega arith)
+      many h u (too_many_cuts k) = refl
+      many h u (cut_above few i a) = absurd (omega arith)
       many h u (cut_below few i a) = absurd (omega arith)
 
       of : length input.cuts ≤ 63 → (i : ℕ) → WrongCut input i → (i < length input.cuts) × (bad_cut_at (length input.tokens) input.cuts i ≡ true)
-      of few i (too-many-cuts k) = absurd (omega arith)
-      of few i (cut-above f h a) = (h, above-bad i a)
+      of few i (too_many_cuts k) = absurd (omega arith)
+      of few i (cut_above f h a) = (h, above-bad i a)
       of few i (cut_below {i = j} f h a) = (h, falls-bad (suc j) (lt-ltb (get_or input.cuts (suc j) 0) (get_or input.cuts j 0) a))
 
       go : (b : Bool) → ltb 63 (length input.cuts) ≡ b
           → Finds (WrongCut input) (elim b [ true ↦ some 63 | false ↦ first_below (bad_cut_at (length input.tokens) input.cuts) (length input.cuts) ])
       go true e =
           let h = ltb-true 63 (length input.cuts) e in
-          least (record { holds = too-many-cuts h; least = λ u l w. let q = many h u w in omega arith })
+          least (record { holds = too_many_cuts h; least = λ u l w. let q = many h u w in omega arith })
       go false e =
           let few = ltb-false 63 (length input.cuts) e in
           first_finds (bad_cut_at (length input.tokens) input.cuts) (length input.cuts) (WrongCut input) (λ i h t. cut-to i few h t) (of few)
@@ -205,34 +205,34 @@ module _ (input : StartInput) where
 -- a row that can start: the conditions of 15, 7, 8, 9, 10 and 11 hold nowhere
 pub record Startable (input : StartInput) : Type 0 where
   pub in-shape : Nowhere (GrammarBroken input)
-  pub some-token : Nowhere (NoTokens input)
-  pub few-tokens : Nowhere (TooMany input)
-  pub right-tokens : Nowhere (WrongToken input)
-  pub right-cuts : Nowhere (WrongCut input)
-  pub room-enough : Nowhere (NoRoomForRow input)
+  pub some_token : Nowhere (NoTokens input)
+  pub few_tokens : Nowhere (TooMany input)
+  pub right_tokens : Nowhere (WrongToken input)
+  pub right_cuts : Nowhere (WrongCut input)
+  pub room_enough : Nowhere (NoRoomForRow input)
 
 -- which check answers, and that those before it pass: `Given`, taken apart once for all the statements below
 data Told (input : StartInput) : Answer → Type 0 where
-  told-shape : {v : ℕ} → Least (GrammarBroken input) v → Told input (Refused BadState)
-  told-empty : {v : ℕ} → Nowhere (GrammarBroken input) → Least (NoTokens input) v → Told input (Refused Empty)
-  told-length : {v : ℕ} → Nowhere (GrammarBroken input) → Nowhere (NoTokens input) → Least (TooMany input) v → Told input (Refused TooLong)
-  told-token : {v : ℕ} → Nowhere (GrammarBroken input) → Nowhere (NoTokens input) → Nowhere (TooMany input) → Least (WrongToken input) v
+  told_shape : {v : ℕ} → Least (GrammarBroken input) v → Told input (Refused BadState)
+  told_empty : {v : ℕ} → Nowhere (GrammarBroken input) → Least (NoTokens input) v → Told input (Refused Empty)
+  told_length : {v : ℕ} → Nowhere (GrammarBroken input) → Nowhere (NoTokens input) → Least (TooMany input) v → Told input (Refused TooLong)
+  told_token : {v : ℕ} → Nowhere (GrammarBroken input) → Nowhere (NoTokens input) → Nowhere (TooMany input) → Least (WrongToken input) v
       → Told input (Refused (BadToken v))
-  told-cut : {v : ℕ} → Nowhere (GrammarBroken input) → Nowhere (NoTokens input) → Nowhere (TooMany input) → Nowhere (WrongToken input) → Least (WrongCut input) v
+  told_cut : {v : ℕ} → Nowhere (GrammarBroken input) → Nowhere (NoTokens input) → Nowhere (TooMany input) → Nowhere (WrongToken input) → Least (WrongCut input) v
       → Told input (Refused (BadCut v))
-  told-room : {v : ℕ} → Nowhere (GrammarBroken input) → Nowhere (NoTokens input) → Nowhere (TooMany input) → Nowhere (WrongToken input) → Nowhere (WrongCut input)
+  told_room : {v : ℕ} → Nowhere (GrammarBroken input) → Nowhere (NoTokens input) → Nowhere (TooMany input) → Nowhere (WrongToken input) → Nowhere (WrongCut input)
       → Least (NoRoomForRow input) v → Told input (Refused (NoRoom v))
-  told-done : Startable input → Told input Done
+  told_done : Startable input → Told input Done
 
 told : (input : StartInput) {answer : Answer} → Given input start_conditions answer → Told input answer
-told input (fails l) = told-shape l
-told input (passes a (fails l)) = told-empty a l
-told input (passes a (passes b (fails l))) = told-length a b l
-told input (passes a (passes b (passes c (fails l)))) = told-token a b c l
-told input (passes a (passes b (passes c (passes d (fails l))))) = told-cut a b c d l
-told input (passes a (passes b (passes c (passes d (passes e (fails l)))))) = told-room a b c d e l
-told input (passes a (passes b (passes c (passes d (passes e (passes f passes-all)))))) =
-    told-done (record { in-shape = a; some-token = b; few-tokens = c; right-tokens = d; right-cuts = e; room-enough = f })
+told input (fails l) = told_shape l
+told input (passes a (fails l)) = told_empty a l
+told input (passes a (passes b (fails l))) = told_length a b l
+told input (passes a (passes b (passes c (fails l)))) = told_token a b c l
+told input (passes a (passes b (passes c (passes d (fails l))))) = told_cut a b c d l
+told input (passes a (passes b (passes c (passes d (passes e (fails l)))))) = told_room a b c d e l
+told input (passes a (passes b (passes c (passes d (passes e (passes f passes_all)))))) =
+    told_done (record { in-shape = a; some_token = b; few_tokens = c; right_tokens = d; right_cuts = e; room_enough = f })
 
 module _ (words matrix tokens cuts : List ℕ) (room : ℕ) where
   abbrev lent : StartInput
@@ -247,28 +247,28 @@ module _ (words matrix tokens cuts : List ℕ) (room : ℕ) where
   bad-state-given = (
     λ e. out (told lent ((by (Refused BadState)).0 e)),
     λ f. (by (Refused BadState)).1
-        (fails {v = 0} (record { holds = grammar-broken f refl; least = λ u h g. absurd (omega arith) })),
+        (fails {v = 0} (record { holds = grammar_broken f refl; least = λ u h g. absurd (omega arith) })),
   )
     where
       broken : {v : ℕ} → GrammarBroken lent v → grammar_in_shape words matrix ≡ false
-      broken (grammar-broken f q) = f
+      broken (grammar_broken f q) = f
 
       out : Told lent (Refused BadState) → grammar_in_shape words matrix ≡ false
-      out (told-shape l) = broken l.holds
+      out (told_shape l) = broken l.holds
 
   -- 7 is given exactly when 15 is not and there are no tokens
   pub empty-given : (start_answer words matrix tokens cuts room ≡ Refused Empty) ↔ (Nowhere (GrammarBroken lent) × (length tokens ≡ 0))
   empty-given = (
     λ e. out (told lent ((by (Refused Empty)).0 e)),
     λ l. (by (Refused Empty)).1
-        (passes l.0 (fails {v = 0} (record { holds = no-tokens l.1 refl; least = λ u h g. absurd (omega arith) }))),
+        (passes l.0 (fails {v = 0} (record { holds = no_tokens l.1 refl; least = λ u h g. absurd (omega arith) }))),
   )
     where
       empty : {v : ℕ} → NoTokens lent v → length tokens ≡ 0
-      empty (no-tokens e q) = e
+      empty (no_tokens e q) = e
 
       out : Told lent (Refused Empty) → Nowhere (GrammarBroken lent) × (length tokens ≡ 0)
-      out (told-empty a l) = (a, empty l.holds)
+      out (told_empty a l) = (a, empty l.holds)
 
   -- 8 is given exactly when 15 is not and there are more than 16,384 tokens
   pub too-long-given : (start_answer words matrix tokens cuts room ≡ Refused TooLong) ↔ (Nowhere (GrammarBroken lent) × (16384 < length tokens))
@@ -279,13 +279,13 @@ module _ (words matrix tokens cuts : List ℕ) (room : ℕ) where
   )
     where
       some_of : 16384 < length tokens → (v : ℕ) → NoTokens lent v → ⊥
-      some_of h v (no-tokens e q) = omega arith
+      some_of h v (no_tokens e q) = omega arith
 
       many : {v : ℕ} → TooMany lent v → 16384 < length tokens
       many (too_many h q) = h
 
       out : Told lent (Refused TooLong) → Nowhere (GrammarBroken lent) × (16384 < length tokens)
-      out (told-length a b l) = (a, many l.holds)
+      out (told_length a b l) = (a, many l.holds)
 
   -- 9 is given at v exactly when 15, 7 and 8 are not, and v is the first place with a token outside 1..T
   pub bad-token-given : (v : ℕ) → (start_answer words matrix tokens cuts room ≡ Refused (BadToken v))
@@ -293,7 +293,7 @@ module _ (words matrix tokens cuts : List ℕ) (room : ℕ) where
   bad-token-given v = (λ e. out (told lent ((by (Refused (BadToken v))).0 e)), λ l. (by (Refused (BadToken v))).1 (passes l.0 (passes l.1 (passes l.2 (fails l.3)))))
     where
       out : Told lent (Refused (BadToken v)) → Nowhere (GrammarBroken lent) × Nowhere (NoTokens lent) × Nowhere (TooMany lent) × Least (WrongToken lent) v
-      out (told-token a b c l) = (a, b, c, l)
+      out (told_token a b c l) = (a, b, c, l)
 
   -- 10 is given at v exactly when 15 and 7 to 9 are not, and there are more than 63 cuts and v is 63, or v is the first bad cut's index
   pub bad-cut-given : (v : ℕ) → (start_answer words matrix tokens cuts room ≡ Refused (BadCut v))
@@ -303,7 +303,7 @@ module _ (words matrix tokens cuts : List ℕ) (room : ℕ) where
     where
       out : Told lent (Refused (BadCut v))
           → Nowhere (GrammarBroken lent) × Nowhere (NoTokens lent) × Nowhere (TooMany lent) × Nowhere (WrongToken lent) × Least (WrongCut lent) v
-      out (told-cut a b c d l) = (a, b, c, d, l)
+      out (told_cut a b c d l) = (a, b, c, d, l)
 
   -- 11 is given, with the words needed, exactly when 15 and 7 to 10 are not and the area has fewer
   pub start-room-given : (v : ℕ) → (start_answer words matrix tokens cuts room ≡ Refused (NoRoom v))
@@ -317,7 +317,7 @@ module _ (words matrix tokens cuts : List ℕ) (room : ℕ) where
       out : Told lent (Refused (NoRoom v))
           → Nowhere (GrammarBroken lent) × Nowhere (NoTokens lent) × Nowhere (TooMany lent) × Nowhere (WrongToken lent) × Nowhere (WrongCut lent)
           × (room < needed lent) × (v ≡ needed lent)
-      out (told-room a b c d e l) = (a, b, c, d, e, (short l.holds).0, (short l.holds).1)
+      out (told_room a b c d e l) = (a, b, c, d, e, (short l.holds).0, (short l.holds).1)
 
       back : Nowhere (GrammarBroken lent) → Nowhere (NoTokens lent) → Nowhere (TooMany lent) → Nowhere (WrongToken lent) → Nowhere (WrongCut lent)
           → room < needed lent → v ≡ needed lent → start_answer words matrix tokens cuts room ≡ Refused (NoRoom v)
@@ -329,9 +329,9 @@ module _ (words matrix tokens cuts : List ℕ) (room : ℕ) where
   pub starts-exactly : (start_answer words matrix tokens cuts room ≡ Done) ↔ Startable lent
   starts-exactly = (
     λ e. out (told lent ((by Done).0 e)),
-    λ s. (by Done).1 (passes s.in-shape (passes s.some-token (passes s.few-tokens (passes s.right-tokens (passes s.right-cuts
-        (passes s.room-enough passes-all)))))),
+    λ s. (by Done).1 (passes s.in-shape (passes s.some_token (passes s.few_tokens (passes s.right_tokens (passes s.right_cuts
+        (passes s.room_enough passes_all)))))),
   )
     where
       out : Told lent Done → Startable lent
-      out (told-done s) = s
+      out (told_done s) = s

@@ -4,8 +4,8 @@
 -- Rests on Start and StartKept, on laws' Least, and on language's Stages.
 --
 -- Main definitions: place_below, bad_tokens, bad_cuts, fits_at, Writable.
--- Main statements: stopped, passed (what a search has found); the answer, check by check: broken-grammar, no-token, many-tokens, bad-token,
--- bad-cut, small-room, enough-room; writable, right-cuts (what holds where nothing is refused).
+-- Main statements: stopped, passed (what a search has found); the answer, check by check: broken-grammar, no_token, many-tokens, bad-token,
+-- bad-cut, small-room, enough-room; writable, right_cuts (what holds where nothing is refused).
 use Rattle.std.specs.Prelude.{◌≡◌, refl, Bool, true, false, not, ◌||◌, List, [], ◌∷◌, ℕ, ◌+◌, ◌≤◌, ◌<◌, ltb, eqb, length, get_or}
 use Rattle.std.proofs.Common.{sym, ◌∙◌, add-one, arith}
 use Rattle.std.proofs.Math.Path.{ap}
@@ -25,7 +25,7 @@ use Rattle.language.specs.Checks.{check_symbols}
 use Rattle.layout.specs.Layout.{need}
 use Rattle.matrix.specs.GrammarShape.{grammar_in_shape}
 use Rattle.start.specs.Start.{start_answer, bad_token_at, cut_falls, bad_cut_at, no_room, Startable, starts-exactly}
-use Rattle.start.specs.StartKept.{GoodCuts, few-tokens, few-cuts, cut-within, cuts-good}
+use Rattle.start.specs.StartKept.{GoodCuts, few_tokens, few_cuts, cut-within, cuts-good}
 
 -- ---- the searches of 9 and 10
 
@@ -117,12 +117,12 @@ module _ (words matrix tokens cuts : List ℕ) (room : ℕ) where
     abbrev by_count : Bool → Bool → Answer
     by_count empty long = answered true empty long (bad_tokens (count_t words) tokens) (bad_cuts n cuts) (ltb room wanted)
 
-    pub no-token : n ≡ 0 → Refused Empty ≡ start_answer words matrix tokens cuts room
-    no-token h = ap (λ b. by_count b (ltb 16384 n)) (sym (eq-eqb n 0 h)) ∙ by-shape true right
+    pub no_token : n ≡ 0 → Refused Empty ≡ start_answer words matrix tokens cuts room
+    no_token h = ap (λ b. by_count b (ltb 16384 n)) (sym (eq-eqb n 0 h)) ∙ by-shape true right
 
-    module _ (some-token : n ≡ 0 → ⊥) where
+    module _ (some_token : n ≡ 0 → ⊥) where
       by_length : (long : Bool) → ltb 16384 n ≡ long → by_count false long ≡ start_answer words matrix tokens cuts room
-      by_length long e = ap (by_count false) (sym e) ∙ (ap (λ b. by_count b (ltb 16384 n)) (sym (ne_eqb n 0 some-token)) ∙ by-shape true right)
+      by_length long e = ap (by_count false) (sym e) ∙ (ap (λ b. by_count b (ltb 16384 n)) (sym (ne_eqb n 0 some_token)) ∙ by-shape true right)
 
       pub many-tokens : 16384 < n → Refused TooLong ≡ start_answer words matrix tokens cuts room
       many-tokens h = by_length true (lt-ltb 16384 n h)
@@ -134,16 +134,16 @@ module _ (words matrix tokens cuts : List ℕ) (room : ℕ) where
         pub bad-token : i < n → Refused (BadToken i) ≡ start_answer words matrix tokens cuts room
         bad-token h = by_token (some i) (place-there h)
 
-        module _ (right-tokens : n ≤ i) (j : ℕ) (cuts-by : bad_cuts n cuts ≡ place_below j (length cuts)) where
+        module _ (right_tokens : n ≤ i) (j : ℕ) (cuts-by : bad_cuts n cuts ≡ place_below j (length cuts)) where
           by-cut : (cut : Option ℕ) → place_below j (length cuts) ≡ cut → answered true false false none cut (ltb room wanted) ≡ start_answer words matrix tokens cuts room
-          by-cut cut e = ap (λ c. answered true false false none c (ltb room wanted)) (sym (cuts-by ∙ e)) ∙ by_token none (place-beyond right-tokens)
+          by-cut cut e = ap (λ c. answered true false false none c (ltb room wanted)) (sym (cuts-by ∙ e)) ∙ by_token none (place-beyond right_tokens)
 
           pub bad-cut : j < length cuts → Refused (BadCut j) ≡ start_answer words matrix tokens cuts room
           bad-cut h = by-cut (some j) (place-there h)
 
-          module _ (right-cuts : length cuts ≤ j) where
+          module _ (right_cuts : length cuts ≤ j) where
             by-room : (short : Bool) → ltb room wanted ≡ short → answered true false false none none short ≡ start_answer words matrix tokens cuts room
-            by-room short e = ap (answered true false false none none) (sym e) ∙ by-cut none (place-beyond right-cuts)
+            by-room short e = ap (answered true false false none none) (sym e) ∙ by-cut none (place-beyond right_cuts)
 
             pub small-room : room < wanted → Refused (NoRoom wanted) ≡ start_answer words matrix tokens cuts room
             small-room h = by-room true (lt-ltb room wanted h)
@@ -155,9 +155,9 @@ module _ (words matrix tokens cuts : List ℕ) (room : ℕ) where
 
 -- the words of a start of these tokens and cuts have room in an area of that many words, and each fits a word
 pub record Writable (tokens cuts : List ℕ) (room : ℕ) : Type 0 where
-  pub few-tokens : length tokens ≤ 16384
-  pub few-cuts : length cuts ≤ 63
-  pub cuts-within : (i : ℕ) → get_or cuts i 0 ≤ length tokens
+  pub few_tokens : length tokens ≤ 16384
+  pub few_cuts : length cuts ≤ 63
+  pub cuts_within : (i : ℕ) → get_or cuts i 0 ≤ length tokens
   pub enough : need (length tokens) (length cuts + 1) ≤ room
 
 module _ (words matrix tokens cuts : List ℕ) (room : ℕ) (done : start_answer words matrix tokens cuts room ≡ Done) where
@@ -170,8 +170,8 @@ module _ (words matrix tokens cuts : List ℕ) (room : ℕ) (done : start_answer
 
   pub writable : Writable tokens cuts room
   writable =
-      let short : room < need (length tokens) (length cuts + 1) → ⊥ = λ h. startable.room-enough (need (length tokens) (length cuts + 1)) (no_room h refl) in
-      record { few-tokens = few-tokens startable; few-cuts = few-cuts startable; cuts-within = λ i. within i (dec_lt i (length cuts)); enough = omega arith }
+      let short : room < need (length tokens) (length cuts + 1) → ⊥ = λ h. startable.room_enough (need (length tokens) (length cuts + 1)) (no_room h refl) in
+      record { few_tokens = few_tokens startable; few_cuts = few_cuts startable; cuts_within = λ i. within i (dec_lt i (length cuts)); enough = omega arith }
 
-  pub right-cuts : GoodCuts (length tokens) 0 cuts
-  right-cuts = cuts-good startable
+  pub right_cuts : GoodCuts (length tokens) 0 cuts
+  right_cuts = cuts-good startable

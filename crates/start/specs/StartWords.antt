@@ -18,7 +18,7 @@ use Rattle.machine.specs.States.{unread_from, pieces, start_chunk, start_chunks,
 use Rattle.machine.proofs.Starts.{pieces-together}
 use Rattle.layout.specs.Layout.{need, more, block, unread_size, unread_words, total, rows, slots, zeros, encode}
 use Rattle.layout.specs.Lengths.{length-rows, length-slots, words_append}
-use Rattle.start.specs.StartKept.{GoodCuts, no_cut, next-cut}
+use Rattle.start.specs.StartKept.{GoodCuts, no_cut, next_cut}
 
 -- ---- the words
 
@@ -130,7 +130,7 @@ later_rows {n} {i} tokens no_cut e =
     let a : i + 1 + 0 ≡ i + 1 = omega arith in
     let b : i + 1 + (0 + unread_size (unread_from i tokens)) ≡ n + 2 = omega (arith, unread-size i tokens) in
     rw (a, b)
-later_rows {n} {i} tokens (next-cut {cut = cut} p q g) e =
+later_rows {n} {i} tokens (next_cut {cut = cut} p q g) e =
     let a : i + 1 + 0 ≡ i + 1 = omega arith in
     let b : i + 1 + (0 + unread_size (take (cut - i) (unread_from i tokens))) ≡ cut + 1 = omega (arith, take-size (cut - i) i tokens (omega arith)) in
     let d = drop-unread (cut - i) i cut tokens (omega arith) (omega arith) in
@@ -141,7 +141,7 @@ start-rows : (tokens : List ℕ) {cuts : List ℕ} → GoodCuts (length tokens) 
 start-rows tokens no_cut =
     let b : 0 + (1 + unread_size (unread_from 0 tokens)) ≡ length tokens + 2 = omega (arith, unread-size 0 tokens) in
     rw b
-start-rows tokens (next-cut {cut = cut} p q g) =
+start-rows tokens (next_cut {cut = cut} p q g) =
     let b : 0 + (1 + unread_size (take (cut - 0) (unread_from 0 tokens))) ≡ cut + 1 = omega (arith, take-size (cut - 0) 0 tokens (omega arith)) in
     let d = drop-unread (cut - 0) 0 cut tokens (omega arith) (omega arith) in
     rw (b, d, later_rows (drop (cut - 0) tokens) g (omega (arith, length-drop (cut - 0) tokens)))

@@ -22,10 +22,10 @@ use Rattle.language.specs.Grammar.{Grammar, left_side, Spells, mirrored}
 use Rattle.language.specs.Sets.{InLeft, starts, starts-after, starts-within}
 use Rattle.language.specs.SetMasks.{left_member, left_set}
 use Rattle.language.proofs.SetMasks.{left-member-exactly, left-within, left-set-is}
-use Rattle.words.specs.Rules.{is-terminal, is-nonterminal}
+use Rattle.words.specs.Rules.{is_terminal, is_nonterminal}
 use Rattle.table.specs.MaskRows.{gains, gains-bit, none-bit, total, gains-grows, total-most, mask_low}
 use Rattle.table.specs.Sided.{RulesOf, left_of, side_words}
-use Rattle.table.specs.Edges.{spelled, right_side, Front, terminal-first, nonterminal-first, front}
+use Rattle.table.specs.Edges.{spelled, right_side, Front, terminal_first, nonterminal_first, front}
 
 -- what a right side brings that starts with these two words: its first terminal, and all of the set of a nonterminal before it
 abbrev pub brought : List ℕ → ℕ → ℕ → ℕ
@@ -63,36 +63,36 @@ module _ (masks : List ℕ) (a : ℕ) where
   brought-nonterminal w next h = rw (le-ltb w 256 h) (bit-or (2 ^ next) (get_or masks (w - 256) 0) a ∙ rw (bit-pow next a))
 
   brought-first : {ws : List ℕ} {w : List Symbol} → Front ws → map symbol_of ws ≡ terminal a ∷ w → bit (brought masks (get_or ws 0 0) (get_or ws 1 0)) a ≡ true
-  brought-first (terminal-first {a = b} {ws = ws} h) e = let q : a ≡ b = cc (is-terminal b (omega arith)) in brought-terminal b (get_or ws 0 0) h ∙ eq-eqb a b q
-  brought-first (nonterminal-first {w = n} h l k) e = let z : ◌≡◌ {A = ℕ} 0 1 = cc (is-nonterminal n h) in absurd (omega arith)
+  brought-first (terminal_first {a = b} {ws = ws} h) e = let q : a ≡ b = cc (is_terminal b (omega arith)) in brought-terminal b (get_or ws 0 0) h ∙ eq-eqb a b q
+  brought-first (nonterminal_first {w = n} h l k) e = let z : ◌≡◌ {A = ℕ} 0 1 = cc (is_nonterminal n h) in absurd (omega arith)
 
   brought-second : {ws : List ℕ} {k : ℕ} {w : List Symbol} → Front ws → map symbol_of ws ≡ nonterminal k ∷ terminal a ∷ w
       → bit (brought masks (get_or ws 0 0) (get_or ws 1 0)) a ≡ true
-  brought-second (terminal-first {a = b} h) e = let z : ◌≡◌ {A = ℕ} 0 1 = cc (is-terminal b (omega arith)) in absurd (omega arith)
-  brought-second (nonterminal-first {w = n} {a = b} h l k) e =
-      let q : a ≡ b = cc (is-terminal b (omega arith)) in
+  brought-second (terminal_first {a = b} h) e = let z : ◌≡◌ {A = ℕ} 0 1 = cc (is_terminal b (omega arith)) in absurd (omega arith)
+  brought-second (nonterminal_first {w = n} {a = b} h l k) e =
+      let q : a ≡ b = cc (is_terminal b (omega arith)) in
       brought-nonterminal n b h ∙ or-first (eqb a b) (bit (get_or masks (n - 256) 0) a) (eq-eqb a b q)
 
   brought-within : {ws : List ℕ} {k : ℕ} {w : List Symbol} → Front ws → map symbol_of ws ≡ nonterminal k ∷ w → bit (get_or masks k 0) a ≡ true
       → bit (brought masks (get_or ws 0 0) (get_or ws 1 0)) a ≡ true
-  brought-within (terminal-first {a = b} h) e t = let z : ◌≡◌ {A = ℕ} 0 1 = cc (is-terminal b (omega arith)) in absurd (omega arith)
-  brought-within {k = d} (nonterminal-first {w = n} {a = b} h l k) e t =
-      let q : d ≡ n - 256 = cc (is-nonterminal n h) in
+  brought-within (terminal_first {a = b} h) e t = let z : ◌≡◌ {A = ℕ} 0 1 = cc (is_terminal b (omega arith)) in absurd (omega arith)
+  brought-within {k = d} (nonterminal_first {w = n} {a = b} h l k) e t =
+      let q : d ≡ n - 256 = cc (is_nonterminal n h) in
       brought-nonterminal n b h ∙ or-second (eqb a b) (bit (get_or masks (n - 256) 0) a) (rw q at t)
 
   brought-sound : {g : Grammar} {r : ℕ} {ws : List ℕ} → Front ws → Spells g r (map symbol_of ws) → Sound g masks
       → bit (brought masks (get_or ws 0 0) (get_or ws 1 0)) a ≡ true → InLeft g (left_side g r) a
-  brought-sound {g} {r} (terminal-first {a = b} {ws = ws} h) s sound e =
+  brought-sound {g} {r} (terminal_first {a = b} {ws = ws} h) s sound e =
       let q : a ≡ b = eqb-true a b (sym (brought-terminal b (get_or ws 0 0) h) ∙ e) in
-      rw q (starts (rw (is-terminal b (omega arith)) at s))
-  brought-sound {g} {r} (nonterminal-first {w = n} {a = b} h l k) s sound e =
+      rw q (starts (rw (is_terminal b (omega arith)) at s))
+  brought-sound {g} {r} (nonterminal_first {w = n} {a = b} h l k) s sound e =
       go (or_cases (eqb a b) (bit (get_or masks (n - 256) 0) a) (sym (brought-nonterminal n b h) ∙ e))
     where
       go : (eqb a b ≡ true) ⊎ (bit (get_or masks (n - 256) 0) a ≡ true) → InLeft g (left_side g r) a
       go (inl t) =
           let q : a ≡ b = eqb-true a b t in
-          rw q (starts-after (rw (is-nonterminal n h, is-terminal b (omega arith)) at s))
-      go (inr t) = starts-within (rw (is-nonterminal n h) at s) (sound.within (n - 256) a t)
+          rw q (starts-after (rw (is_nonterminal n h, is_terminal b (omega arith)) at s))
+      go (inr t) = starts-within (rw (is_nonterminal n h) at s) (sound.within (n - 256) a t)
 
 -- ---- one rule after another
 

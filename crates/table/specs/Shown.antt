@@ -21,7 +21,7 @@ use Rattle.language.specs.Grammar.{Grammar, mirrored}
 use Rattle.language.specs.RightSides.{Pattern, this, one, passes, fits}
 use Rattle.language.specs.SetMasks.{left_member}
 use Rattle.table.specs.declared.relations.Added.{Added}
-use Rattle.words.specs.Rules.{is-terminal, is-nonterminal}
+use Rattle.words.specs.Rules.{is_terminal, is_nonterminal}
 use Rattle.table.specs.MaskRows.{gains, gains-bit}
 use Rattle.table.specs.Edges.{RightSide}
 use Rattle.table.specs.SetPasses.{AreSets}
@@ -49,10 +49,10 @@ here g takes a b w = fits (one (λ d. left_member (mirrored g) d a) ∷ this b �
 
 -- what code asks of the symbols of a pair: those that pick a row, a bit or a set are below 64
 pub record Paired (a b : ℕ) : Type 0 where
-  pub first-terminal : a < 256 → a < 64
-  pub first-nonterminal : a < 320
-  pub second-terminal : b < 256 → b < 64
-  pub second-nonterminal : b < 320
+  pub first_terminal : a < 256 → a < 64
+  pub first_nonterminal : a < 320
+  pub second_terminal : b < 256 → b < 64
+  pub second_nonterminal : b < 320
   pub second : 256 ≤ a → b < 64
 
 -- what the pair a, b shows: the row that gains, and the members it gains
@@ -67,8 +67,8 @@ pub row_below : (left right : List ℕ) (a b : ℕ) → Paired a b → (shown_by
 row_below left right a b p = go (dec_lt a 256) (dec_lt b 256)
   where
     go : Dec (a < 256) → Dec (b < 256) → (shown_by left right a b).row < 192
-    go (yes h) (yes l) = rw (lt-leb 256 a h, lt-leb 256 b l) (omega (arith, p.first-terminal h))
-    go (yes h) (no l) = rw (lt-leb 256 a h, le-leb 256 b (omega arith)) (omega (arith, p.first-terminal h))
+    go (yes h) (yes l) = rw (lt-leb 256 a h, lt-leb 256 b l) (omega (arith, p.first_terminal h))
+    go (yes h) (no l) = rw (lt-leb 256 a h, le-leb 256 b (omega arith)) (omega (arith, p.first_terminal h))
     go (no h) l = rw (le-leb 256 a (omega arith)) (omega (arith, p.second (omega arith)))
 
 -- the rows with what it shows
@@ -229,12 +229,12 @@ module _ (g : Grammar) (left right : List ℕ) (sets : AreSets g left right) (ro
   pub pair-adds : {ws : List ℕ} → Neighbours ws → (256 ≤ get_or ws 1 0 → length ws ≤ 2)
       → Adds (λ k a b. here g k a b (map symbol_of ws)) rows (pair_shown left right (get_or ws 0 0) (get_or ws 1 0) rows)
   pair-adds (terminals {a = u} {b = v} {ws = ws} h l) alone =
-      rw (is-terminal u (omega arith), is-terminal v (omega arith), lt-leb 256 u (omega arith), lt-leb 256 v (omega arith)) (adds-terminals u v (map symbol_of ws) h)
+      rw (is_terminal u (omega arith), is_terminal v (omega arith), lt-leb 256 u (omega arith), lt-leb 256 v (omega arith)) (adds-terminals u v (map symbol_of ws) h)
   pair-adds (before_last {a = u} {d = d} h l n) alone =
-      rw (is-terminal u (omega arith), is-nonterminal d l, lt-leb 256 u (omega arith), le-leb 256 d l) (adds-last u (d - 256) h)
+      rw (is_terminal u (omega arith), is_nonterminal d l, lt-leb 256 u (omega arith), le-leb 256 d l) (adds-last u (d - 256) h)
   pair-adds (around {a = u} {d = d} {b = v} {ws = ws} h l n p q) alone = absurd (omega (arith, alone l))
   pair-adds (after_first {d = d} {b = v} {ws = ws} l n q) alone =
-      rw (is-nonterminal d l, is-terminal v (omega arith), le-leb 256 d l) (adds-takes (d - 256) v (map symbol_of ws) q)
+      rw (is_nonterminal d l, is_terminal v (omega arith), le-leb 256 d l) (adds-takes (d - 256) v (map symbol_of ws) q)
 
   -- a, one nonterminal, and something behind it
   pub around-adds : {ws : List ℕ} → Neighbours ws → 256 ≤ get_or ws 1 0 → 2 < length ws
@@ -242,7 +242,7 @@ module _ (g : Grammar) (left right : List ℕ) (sets : AreSets g left right) (ro
   around-adds (terminals h l) m k = absurd (omega arith)
   around-adds (before_last h l n) m k = absurd (omega arith)
   around-adds (around {a = u} {d = d} {b = v} {ws = ws} h l n p q) m k =
-      rw (is-terminal u (omega arith), is-nonterminal d l, is-terminal v (omega arith), lt-leb 256 u (omega arith), le-leb 256 d l, lt-leb 256 v (omega arith))
+      rw (is_terminal u (omega arith), is_nonterminal d l, is_terminal v (omega arith), lt-leb 256 u (omega arith), le-leb 256 d l, lt-leb 256 v (omega arith))
       (adds-around u (d - 256) h v (map symbol_of ws))
   around-adds (after_first l n q) m k = absurd (omega arith)
 
@@ -254,18 +254,18 @@ neighbours ws s i h =
     rw (drop-cons ws i 0 (omega arith), drop-cons ws (suc i) 0 h) (first (dec_lt (get_or ws i 0) 256) (dec_lt (get_or ws (suc i) 0) 256) (dec_lt (suc (suc i)) (length ws)))
   where
     first : Dec (get_or ws i 0 < 256) → Dec (get_or ws (suc i) 0 < 256) → Dec (suc (suc i) < length ws) → Neighbours (get_or ws i 0 ∷ get_or ws (suc i) 0 ∷ drop (suc (suc i)) ws)
-    first (yes a) (yes b) c = terminals (s.terminal-low i (omega arith) a) (s.terminal-low (suc i) h b)
+    first (yes a) (yes b) c = terminals (s.terminal_low i (omega arith) a) (s.terminal_low (suc i) h b)
     first (yes a) (no d) (yes c) =
         let n = s.apart (suc i) c (omega arith) in
         rw (drop-cons ws (suc (suc i)) 0 c)
-        (around {d = get_or ws (suc i) 0} (s.terminal-low i (omega arith) a) (omega arith) (s.nonterminal-low (suc i) h)
-        (s.positive (suc (suc i)) c) (s.terminal-low (suc (suc i)) c n))
+        (around {d = get_or ws (suc i) 0} (s.terminal_low i (omega arith) a) (omega arith) (s.nonterminal_low (suc i) h)
+        (s.positive (suc (suc i)) c) (s.terminal_low (suc (suc i)) c n))
     first (yes a) (no d) (no c) =
         rw (drop_of_length-le ws {i = suc (suc i)} (omega arith))
-        (before_last {d = get_or ws (suc i) 0} (s.terminal-low i (omega arith) a) (omega arith) (s.nonterminal-low (suc i) h))
+        (before_last {d = get_or ws (suc i) 0} (s.terminal_low i (omega arith) a) (omega arith) (s.nonterminal_low (suc i) h))
     first (no d) b c =
         let n = s.apart i h (omega arith) in
-        after_first {d = get_or ws i 0} (omega arith) (s.nonterminal-low i (omega arith)) (s.terminal-low (suc i) h n)
+        after_first {d = get_or ws i 0} (omega arith) (s.nonterminal_low i (omega arith)) (s.terminal_low (suc i) h n)
 
 -- what is shown at some place of a string
 abbrev pub anywhere : (List Symbol → Bool) → List Symbol → Bool

@@ -18,12 +18,12 @@ use Rattle.language.specs.Grammar.{Grammar, Rule, rule_at, left_side, in_play, H
 use Rattle.language.specs.Words.{word, count_r, entry, body_end, right_words, grammar_of}
 use Rattle.language.proofs.CheckHead.{head-finds}
 use Rattle.language.proofs.CheckContents.{contents-finds}
-use Rattle.language.specs.CheckForm.{BadForm, form-adjacent, form-bare}
+use Rattle.language.specs.CheckForm.{BadForm, form_adjacent, form_bare}
 use Rattle.language.specs.Checks.{Passed}
 use Rattle.language.proofs.Mirror.{mirrored-plays, mirrored-left, mirrored-rule, has-turned}
 use Rattle.language.specs.SetMasks.{InRange}
 use Rattle.language.proofs.SetMasks.{in-range-mirrored}
-use Rattle.language.proofs.WordsInRange.{rules-count, rule-at, in-range, few-terminals, few-nonterminals}
+use Rattle.language.proofs.WordsInRange.{rules-count, rule-at, in_range, few-terminals, few-nonterminals}
 use Rattle.words.specs.Laid.{Laid, headed, laid}
 
 -- a string seen from its start, or from its end
@@ -109,7 +109,7 @@ module _ (words : List ℕ) where
       below = λ r m. omega (arith, up_to-below (length (grammar_of words).rules) r m, rules-count words);
       left_is = λ r h. ap (λ (rule : Rule). rule.left) (rule-at words r h);
       right_is = λ r h. ap (λ (rule : Rule). rule.right) (rule-at words r h);
-      range = in-range words passed.head passed.symbols;
+      range = in_range words passed.head passed.symbols;
       forms = passed.forms;
       terminals = (few-terminals words passed.head).1;
       nonterminals = (few-nonterminals words passed.head).1;
@@ -136,8 +136,8 @@ mirrored-forms {g} n r b = go b
     below h = rw (length-map g.rules mirrored_rule) at h
 
     go : BadForm (mirrored g) r → ⊥
-    go (form-adjacent h a) = n r (form-adjacent (below h) (record { one = a.other; other = a.one; stand = back a.stand }))
-    go (form-bare h bare) = n r (form-bare (below h) (λ a k. bare a (forth k)))
+    go (form_adjacent h a) = n r (form_adjacent (below h) (record { one = a.other; other = a.one; stand = back a.stand }))
+    go (form_bare h bare) = n r (form_bare (below h) (λ a k. bare a (forth k)))
 
 mirrored-rules : {g : Grammar} {count : ℕ} {left : ℕ → ℕ} {right : ℕ → List ℕ} → RulesOf g count left right → RulesOf (mirrored g) count left (λ r. reverse (right r))
 unfolding mirrored

@@ -79,9 +79,9 @@ good-limited limit numbers (some []) e = let f : [] ≡ numbers = cc in omega (a
 good-limited limit numbers (some (byte ∷ line)) e = limited limit numbers (numbers_of (parts_of (byte ∷ line))) e
 
 pub record Limited (words tokens cuts : List ℕ) : Type 0 where
-  pub words-limited : length words ≤ most_words
-  pub tokens-limited : length tokens ≤ most_tokens
-  pub cuts-limited : length cuts ≤ most_cuts
+  pub words_limited : length words ≤ most_words
+  pub tokens_limited : length tokens ≤ most_tokens
+  pub cuts_limited : length cuts ≤ most_cuts
 
 -- what is read has no more numbers than there may be
 pub read-limited : (text words tokens cuts : List ℕ) → read_text text ≡ lines words tokens cuts → Limited words tokens cuts
@@ -103,7 +103,7 @@ read-limited text words tokens cuts e =
         let g : t ≡ tokens = cc in
         let h : k ≡ cuts = cc in
         record {
-          words-limited = good-limited most_words words (get_elem? ls 0) (a ∙ ap some f);
-          tokens-limited = good-limited most_tokens tokens (get_elem? ls 1) (b ∙ ap some g);
-          cuts-limited = good-limited most_cuts cuts (get_elem? ls 2) (c ∙ ap some h);
+          words_limited = good-limited most_words words (get_elem? ls 0) (a ∙ ap some f);
+          tokens_limited = good-limited most_tokens tokens (get_elem? ls 1) (b ∙ ap some g);
+          cuts_limited = good-limited most_cuts cuts (get_elem? ls 2) (c ∙ ap some h);
         }

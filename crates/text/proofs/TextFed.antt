@@ -217,14 +217,14 @@ module _ (W T C : List ℕ) where
   buffers-hold w t c text words tokens cuts e =
       let l = read-limited text words tokens cuts e in
       (text-fed text).stored words tokens cuts e
-      ∙ rw (onto-sets words W (omega (arith, l.words-limited)), onto-sets tokens T (omega (arith, l.tokens-limited)), onto-sets cuts C (omega (arith, l.cuts-limited)))
+      ∙ rw (onto-sets words W (omega (arith, l.words_limited)), onto-sets tokens T (omega (arith, l.tokens_limited)), onto-sets cuts C (omega (arith, l.cuts_limited)))
 
   pub text-answered : (text : List ℕ) (s r : State) (W' T' C' : List ℕ) → s ≡ start → held r W' T' C' ≡ fed_all (held s W T C) text
       → (finish_of r ≡ answer_for (read_text text)) × TextHeld W T C text W' T' C'
   text-answered text s r W' T' C' e f =
       let g : held r W' T' C' ≡ after W T C text = f ∙ ap (λ (q : State). fed_all (held q W T C) text) e in (
         ap (λ (h : Held). finish_of h.state) g ∙ (text-fed text).finished,
-        record { words-held = ap (λ (h : Held). h.words) g; tokens-held = ap (λ (h : Held). h.tokens) g; cuts-held = ap (λ (h : Held). h.cuts) g },
+        record { words_held = ap (λ (h : Held). h.words) g; tokens_held = ap (λ (h : Held). h.tokens) g; cuts_held = ap (λ (h : Held). h.cuts) g },
       )
 
   -- however a text is cut in pieces, feeding them is feeding the text

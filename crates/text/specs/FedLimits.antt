@@ -22,19 +22,19 @@ use Rattle.text.specs.Feeding.{Held, start, within, in_phase, started, next_line
 use Rattle.text.specs.Feeding.{fed_in, fed, fed_all, fed-in, answer_in, answer_of, finish_in, finish_of}
 
 pub record InLimits (s : State) : Type 0 where
-  pub words-in : s.words ≤ most_words
-  pub tokens-in : s.tokens ≤ most_tokens
-  pub cuts-in : s.cuts ≤ most_cuts
+  pub words_in : s.words ≤ most_words
+  pub tokens_in : s.tokens ≤ most_tokens
+  pub cuts_in : s.cuts ≤ most_cuts
 
 pub limits-start : InLimits start
-limits-start = record { words-in = omega arith; tokens-in = omega arith; cuts-in = omega arith }
+limits-start = record { words_in = omega arith; tokens_in = omega arith; cuts_in = omega arith }
 
 limits-phase : (s : State) (p : Phase) → InLimits s → InLimits (in_phase s p)
-limits-phase s p i = record { words-in = i.words-in; tokens-in = i.tokens-in; cuts-in = i.cuts-in }
+limits-phase s p i = record { words_in = i.words_in; tokens_in = i.tokens_in; cuts_in = i.cuts_in }
 
 limits-next : (s : State) (l : Line) → InLimits s → InLimits (next_line s l)
-limits-next s Words i = record { words-in = i.words-in; tokens-in = i.tokens-in; cuts-in = i.cuts-in }
-limits-next s Tokens i = record { words-in = i.words-in; tokens-in = i.tokens-in; cuts-in = i.cuts-in }
+limits-next s Words i = record { words_in = i.words_in; tokens_in = i.tokens_in; cuts_in = i.cuts_in }
+limits-next s Tokens i = record { words_in = i.words_in; tokens_in = i.tokens_in; cuts_in = i.cuts_in }
 limits-next s Cuts i = limits-phase s Done i
 
 limits-kept : (h : Held) (v : ℕ) → full h.state ≡ false → InLimits h.state → InLimits (kept h v).state
@@ -44,9 +44,9 @@ limits-kept h v = go h.state.line
     at l = within h (record { line = l; phase = h.state.phase; words = h.state.words; tokens = h.state.tokens; cuts = h.state.cuts })
 
     go : (l : Line) → full (at l).state ≡ false → InLimits h.state → InLimits (kept (at l) v).state
-    go Words f i = record { words-in = omega (arith, leb-false most_words h.state.words f); tokens-in = i.tokens-in; cuts-in = i.cuts-in }
-    go Tokens f i = record { words-in = i.words-in; tokens-in = omega (arith, leb-false most_tokens h.state.tokens f); cuts-in = i.cuts-in }
-    go Cuts f i = record { words-in = i.words-in; tokens-in = i.tokens-in; cuts-in = omega (arith, leb-false most_cuts h.state.cuts f) }
+    go Words f i = record { words_in = omega (arith, leb-false most_words h.state.words f); tokens_in = i.tokens_in; cuts_in = i.cuts_in }
+    go Tokens f i = record { words_in = i.words_in; tokens_in = omega (arith, leb-false most_tokens h.state.tokens f); cuts_in = i.cuts_in }
+    go Cuts f i = record { words_in = i.words_in; tokens_in = i.tokens_in; cuts_in = omega (arith, leb-false most_cuts h.state.cuts f) }
 
 module _ (h : Held) (byte : ℕ) (i : InLimits h.state) where
   abbrev Fine : Held → Type 0
@@ -85,22 +85,22 @@ limits-fed (byte ∷ piece) h i =
 
 -- and the buffers' lengths
 pub record SameLengths (h k : Held) : Type 0 where
-  pub words-long : length k.words ≡ length h.words
-  pub tokens-long : length k.tokens ≡ length h.tokens
-  pub cuts-long : length k.cuts ≡ length h.cuts
+  pub words_long : length k.words ≡ length h.words
+  pub tokens_long : length k.tokens ≡ length h.tokens
+  pub cuts_long : length k.cuts ≡ length h.cuts
 
 same-all : (h : Held) (s : State) → SameLengths h (within h s)
-same-all h s = record { words-long = refl; tokens-long = refl; cuts-long = refl }
+same-all h s = record { words_long = refl; tokens_long = refl; cuts_long = refl }
 
 same-kept : (h : Held) (v : ℕ) (l : Line) → SameLengths h (kept_in l h v)
-same-kept h v Words = record { words-long = length-set h.words h.state.words v; tokens-long = refl; cuts-long = refl }
-same-kept h v Tokens = record { words-long = refl; tokens-long = length-set h.tokens h.state.tokens v; cuts-long = refl }
-same-kept h v Cuts = record { words-long = refl; tokens-long = refl; cuts-long = length-set h.cuts h.state.cuts v }
+same-kept h v Words = record { words_long = length-set h.words h.state.words v; tokens_long = refl; cuts_long = refl }
+same-kept h v Tokens = record { words_long = refl; tokens_long = length-set h.tokens h.state.tokens v; cuts_long = refl }
+same-kept h v Cuts = record { words_long = refl; tokens_long = refl; cuts_long = length-set h.cuts h.state.cuts v }
 
 same-ended : (h : Held) (v byte : ℕ) → SameLengths h (ended h v byte)
 same-ended h v byte =
     pick-with (SameLengths h) (full h.state) (λ f. same-all h (in_phase h.state Bad))
-    (λ f. let k = same-kept h v h.state.line in record { words-long = k.words-long; tokens-long = k.tokens-long; cuts-long = k.cuts-long })
+    (λ f. let k = same-kept h v h.state.line in record { words_long = k.words_long; tokens_long = k.tokens_long; cuts_long = k.cuts_long })
 
 same-in : (h : Held) (byte : ℕ) (p : Phase) → SameLengths h (fed_in p h byte)
 same-in h byte Fresh = same-all h (opened h.state byte)
@@ -116,9 +116,9 @@ lengths-fed (byte ∷ piece) h =
     let one = subst (SameLengths h) (fed-in h byte h.state.phase refl) (same-in h byte h.state.phase) in
     let more = lengths-fed piece (fed h byte) in
     record {
-      words-long = more.words-long ∙ one.words-long;
-      tokens-long = more.tokens-long ∙ one.tokens-long;
-      cuts-long = more.cuts-long ∙ one.cuts-long;
+      words_long = more.words_long ∙ one.words_long;
+      tokens_long = more.tokens_long ∙ one.tokens_long;
+      cuts_long = more.cuts_long ∙ one.cuts_long;
     }
 
 -- and so do the counts of an answer
@@ -135,7 +135,7 @@ limits-answer s i = go s.phase
     go (Number v) = tt
     go Space = tt
     go Bad = tt
-    go Done = (i.words-in, i.tokens-in, i.cuts-in)
+    go Done = (i.words_in, i.tokens_in, i.cuts_in)
 
 pub limits-finish : (s : State) → InLimits s → AnswerLimits (finish_of s)
 limits-finish s i = go (answer_of s) (limits-answer s i)

@@ -154,18 +154,18 @@ module _ (rest : List ℕ) where
   step h p byte bytes numbers next e t = subst (λ (k : Held). Ended h numbers (fed_all k bytes) rest) (sym e) t
 
   -- the line ends here
-  at-end : FedRight []
-  at-end Fresh h o = rw (leb-zero (room h.state)) (step h Fresh line_feed rest (some []) (line_done h) (from-fresh h line_feed) refl)
-  at-end (Number v) h o = go (room h.state) refl
+  at_end : FedRight []
+  at_end Fresh h o = rw (leb-zero (room h.state)) (step h Fresh line_feed rest (some []) (line_done h) (from-fresh h line_feed) refl)
+  at_end (Number v) h o = go (room h.state) refl
     where
       go : (k : ℕ) → room h.state ≡ k → Ended h (at_most k (some (v ∷ []))) (fed_all (held_in h (Number v)) (line_feed ∷ rest)) rest
       go zero e = step h (Number v) line_feed rest none (held_in h Bad) (from-number h line_feed v refl ∙ ended-out h v line_feed e) (broken h rest)
       go (suc k) e =
           rw (le-leb 1 (suc k) (omega arith))
           (step h (Number v) line_feed rest (some (v ∷ [])) (line_done (kept h v)) (from-number h line_feed v refl ∙ ended-in h v line_feed k e) refl)
-  at-end Space h o = step h Space line_feed rest none (held_in h Bad) (from-space h line_feed) (broken h rest)
-  at-end Bad h o = absurd o
-  at-end Done h o = absurd o
+  at_end Space h o = step h Space line_feed rest none (held_in h Bad) (from-space h line_feed) (broken h rest)
+  at_end Bad h o = absurd o
+  at_end Done h o = absurd o
 
   module _ (byte : ℕ) (line : List ℕ) (no-feed : eqb byte line_feed ≡ false) (rest-right : FedRight line) where
     abbrev bytes : List ℕ
@@ -182,9 +182,9 @@ module _ (rest : List ℕ) where
         step h p byte bytes (at_most (room h.state) (numbers_after line (Number v))) (held_in h (Number v)) e (rest-right (Number v) h tt)
 
     -- a number must start
-    at-start : (h : Held) (p : Phase) → fed (held_in h p) byte ≡ within h (started h.state byte)
+    at_start : (h : Held) (p : Phase) → fed (held_in h p) byte ≡ within h (started h.state byte)
         → Ended h (at_most (room h.state) (pick (is_digit byte) (numbers_after line (Number (byte - 48))) none)) (fed_all (held_in h p) (byte ∷ bytes)) rest
-    at-start h p e = go (is_digit byte) refl
+    at_start h p e = go (is_digit byte) refl
       where
         go : (d : Bool) → is_digit byte ≡ d
             → Ended h (at_most (room h.state) (pick d (numbers_after line (Number (byte - 48))) none)) (fed_all (held_in h p) (byte ∷ bytes)) rest
@@ -223,14 +223,14 @@ module _ (rest : List ℕ) where
     in-number h v (other d s) = rw (d, s) (at-other h v d s (room h.state) refl)
 
     one-more : FedRight (byte ∷ line)
-    one-more Fresh h o = at-start h Fresh (from-fresh h byte ∙ rw no-feed)
+    one-more Fresh h o = at_start h Fresh (from-fresh h byte ∙ rw no-feed)
     one-more (Number v) h o = in-number h v (kind byte)
-    one-more Space h o = at-start h Space (from-space h byte)
+    one-more Space h o = at_start h Space (from-space h byte)
     one-more Bad h o = absurd o
     one-more Done h o = absurd o
 
   pub line-fed : (line : List ℕ) → NoFeed line → FedRight line
-  line-fed [] n = at-end
+  line-fed [] n = at_end
   line-fed (byte ∷ line) n = one-more byte line n.0 (line-fed line n.1)
 
 -- this line is being read, or is bad

@@ -91,58 +91,58 @@ on-other value byte (part ∷ parts) d = rw d
 
 -- there is always a first part
 data Some : List (List ℕ) → Type 0 where
-  some-part : (part : List ℕ) (parts : List (List ℕ)) → Some (part ∷ parts)
+  some_part : (part : List ℕ) (parts : List (List ℕ)) → Some (part ∷ parts)
 
 parts-some : (line : List ℕ) → Some (parts_of line)
-parts-some [] = some-part [] []
+parts-some [] = some_part [] []
 parts-some (byte ∷ line) = go (eqb byte space) (parts-some line)
   where
     go : (b : Bool) {parts : List (List ℕ)} → Some parts → Some (divided b byte parts)
-    go true {parts} s = some-part [] parts
-    go false (some-part part parts) = some-part (byte ∷ part) parts
+    go true {parts} s = some_part [] parts
+    go false (some_part part parts) = some_part (byte ∷ part) parts
 
 -- a number starts with a digit
 of-digit : (byte : ℕ) {parts : List (List ℕ)} → Some parts → is_digit byte ≡ true → numbers_of (divided false byte parts) ≡ numbers_on (byte - 48) parts
-of-digit byte (some-part part parts) d = rw (d, zero-add)
+of-digit byte (some_part part parts) d = rw (d, zero-add)
 
 of-other : (byte : ℕ) {parts : List (List ℕ)} → Some parts → is_digit byte ≡ false → numbers_of (divided false byte parts) ≡ none
-of-other byte (some-part part parts) d = rw d
+of-other byte (some_part part parts) d = rw d
 
 -- what the bytes make one by one is what the parts stand for
 record Agrees (line : List ℕ) : Type 0 where
-  space-next : numbers_after line Space ≡ numbers_of (parts_of line)
-  number-next : (value : ℕ) → value ≤ 65535 → numbers_after line (Number value) ≡ numbers_on value (parts_of line)
+  space_next : numbers_after line Space ≡ numbers_of (parts_of line)
+  number_next : (value : ℕ) → value ≤ 65535 → numbers_after line (Number value) ≡ numbers_on value (parts_of line)
 
 number-ends : (value : ℕ) (parts : List (List ℕ)) → value ≤ 65535 → both (some value) (numbers_of parts) ≡ numbers_on value ([] ∷ parts)
 number-ends value parts h = rw (le-leb value 65535 h)
 
 agrees : (line : List ℕ) → Agrees line
-agrees [] = record { space-next = refl; number-next = λ value h. number-ends value [] h }
+agrees [] = record { space_next = refl; number_next = λ value h. number-ends value [] h }
 agrees (byte ∷ line) = go (kind byte) (agrees line)
   where
     go : Kind byte → Agrees line → Agrees (byte ∷ line)
     go (digit d s) rest =
         let small : byte - 48 ≤ 65535 = omega (arith, (digit-range byte d).1) in
         record {
-          space-next = rw (d, s) (rest.number-next (byte - 48) small ∙ sym (of-digit byte (parts-some line) d));
-          number-next = λ value h. rw (d, s, on-digit value byte (parts_of line) d) (longer (value * 10 + (byte - 48)) (leb (value * 10 + (byte - 48)) 65535) refl);
+          space_next = rw (d, s) (rest.number_next (byte - 48) small ∙ sym (of-digit byte (parts-some line) d));
+          number_next = λ value h. rw (d, s, on-digit value byte (parts_of line) d) (longer (value * 10 + (byte - 48)) (leb (value * 10 + (byte - 48)) 65535) refl);
         }
       where
         longer : (next : ℕ) (b : Bool) → leb next 65535 ≡ b → pick b (numbers_after line (Number next)) none ≡ pick b (numbers_on next (parts_of line)) none
-        longer next true e = rest.number-next next (leb-true next 65535 e)
+        longer next true e = rest.number_next next (leb-true next 65535 e)
         longer next false e = refl
     go (gap e) rest =
         record {
-          space-next = rw e;
-          number-next = λ value h. rw (e, rest.space-next) (number-ends value (parts_of line) h);
+          space_next = rw e;
+          number_next = λ value h. rw (e, rest.space_next) (number-ends value (parts_of line) h);
         }
     go (other d s) rest =
         record {
-          space-next = rw (d, s) (sym (of-other byte (parts-some line) d));
-          number-next = λ value h. rw (d, s) (sym (on-other value byte (parts_of line) d));
+          space_next = rw (d, s) (sym (of-other byte (parts-some line) d));
+          number_next = λ value h. rw (d, s) (sym (on-other value byte (parts_of line) d));
         }
 
 -- a line's numbers
 pub line-is : (limit : ℕ) (line : List ℕ) → line_of limit line ≡ at_most limit (numbers_after line Fresh)
 line-is limit [] = rw (leb-zero limit)
-line-is limit (byte ∷ line) = ap (λ (o : Option (List ℕ)). at_most limit o) (sym (agrees (byte ∷ line)).space-next)
+line-is limit (byte ∷ line) = ap (λ (o : Option (List ℕ)). at_most limit o) (sym (agrees (byte ∷ line)).space_next)

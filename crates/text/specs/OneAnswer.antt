@@ -20,4 +20,4 @@ held-once promise p q =
 
 pub text-held-once : (W T C text : List ℕ) {W' T' C' W'' T'' C'' : List ℕ} → TextHeld W T C text W' T' C' → TextHeld W T C text W'' T'' C''
     → (W' ≡ W'') × (T' ≡ T'') × (C' ≡ C'')
-text-held-once W T C text a b = (a.words-held ∙ sym b.words-held, a.tokens-held ∙ sym b.tokens-held, a.cuts-held ∙ sym b.cuts-held)
+text-held-once W T C text a b = (a.words_held ∙ sym b.words_held, a.tokens_held ∙ sym b.tokens_held, a.cuts_held ∙ sym b.cuts_held)

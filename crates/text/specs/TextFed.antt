@@ -47,6 +47,6 @@ module _ (W T C : List ℕ) where
 
   -- what the buffers hold after a text
   pub record TextHeld (text W' T' C' : List ℕ) : Type 0 where
-    pub words-held : W' ≡ (after text).words
-    pub tokens-held : T' ≡ (after text).tokens
-    pub cuts-held : C' ≡ (after text).cuts
+    pub words_held : W' ≡ (after text).words
+    pub tokens_held : T' ≡ (after text).tokens
+    pub cuts_held : C' ≡ (after text).cuts

@@ -3,7 +3,7 @@
 -- next starts, the last at the end of the run". Total, as language's Words: an absent word is 0.
 -- Rests on Laid and on language's Words.
 --
--- Main definition: body_at. Main statements: at-start, at-end (the two places of equal bodies); start-absent, ends-short.
+-- Main definition: body_at. Main statements: at_start, at_end (the two places of equal bodies); start-absent, ends-short.
 use Rattle.std.specs.Prelude.{◌≡◌, refl, List, [], ◌∷◌, ℕ, zero, suc, ◌+◌, ◌≤◌, length}
 use Rattle.std.proofs.Common.{sym, ap, arith}
 use Rattle.language.specs.Words.{word, entry, body_end}
@@ -14,11 +14,11 @@ abbrev pub body_at : List ℕ → ℕ → Body
 body_at words r = record { start = entry words r; end = body_end words r }
 
 -- equal bodies have the same two places
-pub at-start : {body other : Body} → body ≡ other → body.start ≡ other.start
-at-start e = ap (λ (b : Body). b.start) e
+pub at_start : {body other : Body} → body ≡ other → body.start ≡ other.start
+at_start e = ap (λ (b : Body). b.start) e
 
-pub at-end : {body other : Body} → body ≡ other → body.end ≡ other.end
-at-end e = ap (λ (b : Body). b.end) e
+pub at_end : {body other : Body} → body ≡ other → body.end ≡ other.end
+at_end e = ap (λ (b : Body). b.end) e
 
 absent : (words : List ℕ) (i : ℕ) → length words ≤ i → ◌≡◌ {A = ℕ} 0 (word words i)
 absent [] i h = refl

@@ -12,7 +12,7 @@ use Rattle.laws.specs.Tests.{le-leb, lt-leb}
 use Rattle.language.specs.Symbols.{Symbol, terminal, nonterminal, symbol_of}
 use Rattle.language.specs.Words.{count_r, entry, body_end, grammar_of}
 use Rattle.language.specs.CheckForm.{adjacent, no_terminal, bad_form}
-use Rattle.words.specs.Rules.{right_of, is-terminal, is-nonterminal}
+use Rattle.words.specs.Rules.{right_of, is_terminal, is_nonterminal}
 
 -- the symbols from place p to the end
 abbrev pub symbols_in : List ℕ → ℕ → ℕ → List Symbol
@@ -48,8 +48,8 @@ module _ (words : List ℕ) (end : ℕ) (fits : end ≤ length words) where
       where
         go : Dec (get_or words p 0 < 256)
             → bad_from bare after (symbol_of (get_or words p 0) ∷ symbols_in words (suc p) end) ≡ ((after && here) || bad_from (bare && here) here (symbols_in words (suc p) end))
-        go (yes k) = rw (is-terminal (get_or words p 0) k, lt-leb 256 (get_or words p 0) k, and-false after, and-false bare)
-        go (no k) = rw (is-nonterminal (get_or words p 0) (omega arith), le-leb 256 (get_or words p 0) (omega arith), and-true after, and-true bare)
+        go (yes k) = rw (is_terminal (get_or words p 0) k, lt-leb 256 (get_or words p 0) k, and-false after, and-false bare)
+        go (no k) = rw (is_nonterminal (get_or words p 0) (omega arith), le-leb 256 (get_or words p 0) (omega arith), and-true after, and-true bare)
 
     -- two adjacent nonterminals are found, and other words are passed
     pub bad-here : (after && here) ≡ true → bad_from bare after (symbols_in words p end) ≡ true

@@ -10,10 +10,10 @@ use Rattle.std.proofs.Math.Decide.{dec_lt, ℕ_discrete}
 use Rattle.std.proofs.Math.Option.{none}
 use Rattle.laws.specs.Least.{Nowhere, finds-none}
 use Rattle.laws.specs.Tests.{lt-ltb, le-ltb}
-use Rattle.language.specs.Words.{count_t, count_n, count_a, count_r, entry, body_end, Outside, too-low, too-high}
-use Rattle.language.specs.CheckHead.{BadHead, head-absent, head_stage}
+use Rattle.language.specs.Words.{count_t, count_n, count_a, count_r, entry, body_end, Outside, too_low, too_high}
+use Rattle.language.specs.CheckHead.{BadHead, head_absent, head_stage}
 use Rattle.language.proofs.CheckHead.{head-finds}
-use Rattle.language.specs.CheckContents.{BadContents, entry_absent, entry_first, entry-step, last-body, contents_stage}
+use Rattle.language.specs.CheckContents.{BadContents, entry_absent, entry_first, entry_step, last_body, contents_stage}
 use Rattle.language.proofs.CheckContents.{contents-finds}
 use Rattle.language.proofs.WordsInRange.{few-terminals, few-nonterminals, few-axioms, few-rules}
 
@@ -23,7 +23,7 @@ pub record Headed (words : List ℕ) : Type 0 where
   pub terminals : count_t words ≤ 63
   pub nonterminals : count_n words ≤ 64
   pub axioms : count_a words ≤ count_n words
-  pub some-rule : 1 ≤ count_r words
+  pub some_rule : 1 ≤ count_r words
   pub rules : count_r words ≤ 256
 
 -- every entry is there, the first body starts after them, and every body is 2 to 9 words
@@ -43,8 +43,8 @@ ended l h = (omega (arith, l.present), λ k. omega (arith, l.present))
 
 not-outside : (low high v : ℕ) → (Outside low high v → ⊥) → (low ≤ v) × (v ≤ high)
 not-outside low high v h =
-    let a : v < low → ⊥ = λ l. h (too-low l) in
-    let b : high < v → ⊥ = λ l. h (too-high l) in
+    let a : v < low → ⊥ = λ l. h (too_low l) in
+    let b : high < v → ⊥ = λ l. h (too_high l) in
     (omega arith, omega arith)
 
 module _ (words : List ℕ) where
@@ -57,11 +57,11 @@ module _ (words : List ℕ) where
   -- words that pass 1
   pub headed : head_stage.fails_at words ≡ none → Headed words
   headed e = record {
-    present = let a : length words ≤ 3 → ⊥ = λ h. n 3 (head-absent (lit< tt) h) in omega arith;
+    present = let a : length words ≤ 3 → ⊥ = λ h. n 3 (head_absent (lit< tt) h) in omega arith;
     terminals = (few-terminals words n).1;
     nonterminals = (few-nonterminals words n).1;
     axioms = (few-axioms words n).1;
-    some-rule = (few-rules words n).0;
+    some_rule = (few-rules words n).0;
     rules = (few-rules words n).1;
   }
     where
@@ -82,7 +82,7 @@ module _ (words : List ℕ) where
       n = (finds-none (contents-finds words)).0 e
 
       some : 1 ≤ count_r words
-      some = h.some-rule
+      some = h.some_rule
 
       there : 4 + count_r words ≤ length words
       there =
@@ -95,11 +95,11 @@ module _ (words : List ℕ) where
 
       body : (r : ℕ) → r < count_r words → Dec (suc r < count_r words) → (entry words r + 2 ≤ body_end words r) × (body_end words r ≤ entry words r + 9)
       body r k (yes l) =
-          let b = not-outside (entry words r + 2) (entry words r + 9) (entry words (suc r)) (λ o. n (suc r) (entry-step l o)) in
+          let b = not-outside (entry words r + 2) (entry words r + 9) (entry words (suc r)) (λ o. n (suc r) (entry_step l o)) in
           rw (ends_next r l) b
       body r k (no l) =
           let last : r ≡ count_r words - 1 = omega arith in
-          let b = not-outside 2 9 (length words - entry words (count_r words - 1)) (λ o. n (count_r words) (last-body o)) in
+          let b = not-outside 2 9 (length words - entry words (count_r words - 1)) (λ o. n (count_r words) (last_body o)) in
           let b' : (2 ≤ length words - entry words r) × (length words - entry words r ≤ 9) = rw last b in
           rw (ends_last r (omega arith)) (omega arith, omega arith)
 
@@ -130,7 +130,7 @@ module _ (words : List ℕ) where
     -- "2,564 grammar words" are the most
     pub short : length words ≤ 2564
     short =
-        let some : 1 ≤ count_r words = l.headed.some-rule in
+        let some : 1 ≤ count_r words = l.headed.some_rule in
         let many : count_r words ≤ 256 = l.headed.rules in
         let h : count_r words - 1 < count_r words = omega arith in
         let e : count_r words ≤ suc (count_r words - 1) = omega arith in

@@ -43,7 +43,7 @@ lies-on here h = record { rule = here.rule; starts = omega (arith, here.starts);
 module _ (words : List ℕ) (l : Laid words) where
   -- the first body starts after the entries
   pub lies-first : Lies words (4 + count_r words) 0
-  lies-first = let some : 0 < count_r words = l.headed.some-rule in record { rule = some; starts = omega (arith, l.first); ends = omega (arith, l.first, l.least 0 some) }
+  lies-first = let some : 0 < count_r words = l.headed.some_rule in record { rule = some; starts = omega (arith, l.first); ends = omega (arith, l.first, l.least 0 some) }
 
   -- just past a body the next one starts
   pub lies-next : {p r : ℕ} → Lies words p r → body_end words r ≤ p + 1 → p + 1 < length words → Lies words (p + 1) (r + 1)

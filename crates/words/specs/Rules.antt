@@ -3,7 +3,7 @@
 -- nonterminal k as 256 + k."
 -- Rests on language's WordsInRange.
 --
--- Main statements: right_of; is-terminal, is-nonterminal, words_back.
+-- Main statements: right_of; is_terminal, is_nonterminal, words_back.
 use Rattle.std.specs.Prelude.{◌≡◌, refl, List, [], ◌∷◌, map, ℕ, ◌-◌, ◌≤◌, ◌<◌}
 use Rattle.std.proofs.Common.{ap, ◌∙◌, arith}
 use Rattle.std.proofs.Math.Decide.{dec_lt}
@@ -18,18 +18,18 @@ pub right_of : (words : List ℕ) (r : ℕ) → r < count_r words → (rule_at (
 right_of words r h = ap (λ (rule : Rule). rule.right) (rule-at words r h)
 
 -- the symbol of a word, and back
-pub is-terminal : (w : ℕ) → w < 256 → symbol_of w ≡ terminal w
-is-terminal w h = rw (lt-ltb w 256 h, symbol_of)
+pub is_terminal : (w : ℕ) → w < 256 → symbol_of w ≡ terminal w
+is_terminal w h = rw (lt-ltb w 256 h, symbol_of)
 
-pub is-nonterminal : (w : ℕ) → 256 ≤ w → symbol_of w ≡ nonterminal (w - 256)
-is-nonterminal w h = rw (le-ltb w 256 h, symbol_of)
+pub is_nonterminal : (w : ℕ) → 256 ≤ w → symbol_of w ≡ nonterminal (w - 256)
+is_nonterminal w h = rw (le-ltb w 256 h, symbol_of)
 
 word_back : (w : ℕ) → word_of (symbol_of w) ≡ w
 word_back w = go (dec_lt w 256)
   where
     go : Dec (w < 256) → word_of (symbol_of w) ≡ w
-    go (yes h) = ap word_of (is-terminal w h)
-    go (no h) = ap word_of (is-nonterminal w (omega arith)) ∙ omega arith
+    go (yes h) = ap word_of (is_terminal w h)
+    go (no h) = ap word_of (is_nonterminal w (omega arith)) ∙ omega arith
 
 pub words_back : (ws : List ℕ) → map word_of (map symbol_of ws) ≡ ws
 words_back [] = refl

@@ -1,6 +1,6 @@
 -- 15 first, then 7 to 11, of which the searches give 9 and 10; where none is given the row's words are written, and else nothing.
 use Rattle.std.proofs.Common.{sym, ◌∙◌, length}
-use Rattle.start.specs.StartChecks.{some_word, broken-grammar, no-token, many-tokens, bad-token, bad-cut, small-room, enough-room, writable}
+use Rattle.start.specs.StartChecks.{some_word, broken-grammar, no_token, many-tokens, bad-token, bad-cut, small-room, enough-room, writable}
 use Rattle.start.proofs.StartLaw.{area_kept, area-started}
 use Rattle.start.proofs.start.Goals as goal
 
@@ -11,7 +11,7 @@ returns-then-not-grammar_in_shape c =
 
 pub returns-then-n-eq0 : goal.returns-then-n-eq0
 returns-then-n-eq0 c =
-    let e = no-token c.args.words.now c.args.matrix.now c.args.tokens.now c.args.cuts.now (length c.args.area.now) (sym c.grammar_in_shape.ensures ∙ c.if-not-grammar_in_shape.false) c.if-n-eq0.true in
+    let e = no_token c.args.words.now c.args.matrix.now c.args.tokens.now c.args.cuts.now (length c.args.area.now) (sym c.grammar_in_shape.ensures ∙ c.if-not-grammar_in_shape.false) c.if-n-eq0.true in
     record { answers = e; leaves = area_kept c.args.words.now c.args.matrix.now c.args.tokens.now c.args.cuts.now c.args.area.now _ e }
 
 pub returns-then-n-gt16384 : goal.returns-then-n-gt16384

@@ -1,3 +1,4 @@
+-- `all_cases`: the words of the grammar under which cases stand are within their array. The measure is how many cases there may still be.
 use Rattle.std.proofs.Common.{◌≤◌}
 use Rattle.vectors.proofs.all_cases.Given as goal
 

@@ -3,7 +3,7 @@ use Rattle.std.proofs.Common.{arith}
 use Rattle.moving.specs.Moved.{stuck-on-top, put-on-top, put_first}
 use Rattle.moving.specs.OneMove.{can-push, can-stick, can-read}
 use Rattle.moving.specs.Settled.{settles}
-use Rattle.moving.specs.SettledReadings.{hand-next, hand-stack, of-next, of-nonterminal, of-top}
+use Rattle.moving.specs.SettledReadings.{hand-next, hand-stack, of-next, of_nonterminal, of-top}
 use Rattle.reader.proofs.calls.next_move.Goals as goal
 
 pub slot_word-b-requires : goal.slot_word-b-requires
@@ -18,7 +18,7 @@ returns-then-nonterminal_on_top c =
     record {
       possible = can-stick c.requires.0;
       leaves = stuck-on-top (rw (of-next k (settles k) c.slot_word-b.ensures) at c.if-b-ge256.true)
-          (of-nonterminal k (settles k) (rw c.if-nonterminal_on_top.true at c.nonterminal_on_top.ensures));
+          (of_nonterminal k (settles k) (rw c.if-nonterminal_on_top.true at c.nonterminal_on_top.ensures));
     }
 
 pub returns-then-b-ge256 : goal.returns-then-b-ge256
@@ -27,7 +27,7 @@ returns-then-b-ge256 c =
     record {
       possible = can-push c.requires.0 0 (omega arith);
       leaves = put-on-top (rw (of-next k (settles k) c.slot_word-b.ensures) at c.if-b-ge256.true)
-          (of-nonterminal k (settles k) (rw c.if-nonterminal_on_top.false at c.nonterminal_on_top.ensures));
+          (of_nonterminal k (settles k) (rw c.if-nonterminal_on_top.false at c.nonterminal_on_top.ensures));
     }
 
 pub related-requires : goal.related-requires

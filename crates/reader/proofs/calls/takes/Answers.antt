@@ -22,7 +22,7 @@ match_rule-requires c =
     let k = c.requires.1 in
     let u = hand-taking k (settles k) c.requires.0 c.if-hand-eq0.false in
     let handle = of-handle k (settles k) c.find_handle-handle.ensures in
-    let m = u.takes-over.compared.facing.movable in
+    let m = u.takes_over.compared.facing.movable in
     let start = handle.starts in
     let r = hand-match k (settles k) _ _ (handle-there u _ start) (can-read m).stacked.room (starts-below u _ start) (handle-counts u _ start _ handle) in
     (k.base, words-readable m.held, r.0, r.1, r.2, r.3)
@@ -54,6 +54,6 @@ returns c =
     let u = hand-taking k (settles k) c.requires.0 c.if-hand-eq0.false in
     let handle = of-handle k (settles k) c.find_handle-handle.ensures in
     record {
-      possible = can-stick u.takes-over.compared.facing.movable;
+      possible = can-stick u.takes_over.compared.facing.movable;
       leaves = stuck-rule u _ handle.starts (of-rule k (settles k) _ _ (rw c.in_default.is at c.match_rule.ensures));
     }

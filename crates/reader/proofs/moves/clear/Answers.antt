@@ -1,3 +1,4 @@
+-- `moves::clear`: the block that ends below `at` is there, as its size says, and clearing its words clears it whole.
 use Rattle.std.proofs.Common.{arith}
 use Rattle.std.proofs.Math.ListN.{length-set}
 use Rattle.moving.specs.Clearing.{clearing, clearing-tagged, clearing-more, clearing-done}

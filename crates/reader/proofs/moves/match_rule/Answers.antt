@@ -14,7 +14,7 @@ outer-init c =
     let a = c.args in
     let e : get_or a.words.now 3 0 ≡ get_or a.words.now 3 0 - 0 = omega arith in
     let first = ap (λ (n : ℕ). first_from (has_right a.words.now (handle_words a.area.now a.from a.head)) n 0) e in
-    (omega arith, first, p.within 0 p.some-rule, λ h. refl)
+    (omega arith, first, p.within 0 p.some_rule, λ h. refl)
 
 pub overflow_add-i-in-outer : goal.overflow_add-i-in-outer
 overflow_add-i-in-outer c = let p = c.requires in omega (arith, c.outer.invariant.2, count_fits p.2, p.3, p.5)

@@ -1,3 +1,4 @@
+-- `moves::top_terminal`: a block whose word is a terminal's is the topmost one; past a nonterminal's the search goes on; with no block left there is none.
 use Rattle.std.proofs.Common.{arith, ap}
 use Rattle.std.proofs.Math.Path.{sym}
 use Rattle.machine.specs.Entries.{top_terminal}

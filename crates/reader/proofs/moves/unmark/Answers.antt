@@ -1,3 +1,4 @@
+-- `moves::unmark`: one mark less is left to clear.
 use Rattle.std.proofs.Common.{◌≡◌, suc, ◌+◌, ◌-◌, arith}
 use Rattle.reader.proofs.moves.unmark.Goals as goal
 

@@ -1,3 +1,4 @@
+-- `moves::zero`: at first no word is cleared, one more is after each turn, and in the end all are.
 use Rattle.std.proofs.Common.{◌≡◌, ◌+◌, arith, ap, ◌∙◌}
 use Rattle.std.proofs.Math.ListN.{set}
 use Rattle.moving.specs.Zeroing.{zeroed-none, zeroed-next}

@@ -48,9 +48,9 @@ loop-turns-preserved g c =
           (omega arith);
       in_limits = limits-after h piece fed f.ensures l.invariant.in_limits;
       piece_length = omega arith;
-      words_length = same.words-long ∙ l.invariant.words_length;
-      tokens_length = same.tokens-long ∙ l.invariant.tokens_length;
-      cuts_length = same.cuts-long ∙ l.invariant.cuts_length;
+      words_length = same.words_long ∙ l.invariant.words_length;
+      tokens_length = same.tokens_long ∙ l.invariant.tokens_length;
+      cuts_length = same.cuts_long ∙ l.invariant.cuts_length;
     }
 
 pub returns-then-n-eq0-clause-reads : goal.returns-then-n-eq0-clause-reads

@@ -1,12 +1,12 @@
 -- Each step of the walk shows the pair at hand, and the terminals around a nonterminal.
-use Rattle.words.specs.Bodies.{at-start, at-end}
+use Rattle.words.specs.Bodies.{at_start, at_end}
 use Rattle.table.specs.Walks.{walking_start, pair, pair-around, step-alone, step-around, walking-end}
 use Rattle.table.proofs.relations.rule_shows.Goals as goal
 
 pub loop-p-init : goal.loop-p-init
 loop-p-init c =
     let e = c.body_of-body.ensures in
-    walking_start c.args.words.now c.requires.0 c.args.r c.requires.1 c.args.rows.now c.requires.3 (at-start e) (at-end e)
+    walking_start c.args.words.now c.requires.0 c.args.r c.requires.1 c.args.rows.now c.requires.3 (at_start e) (at_end e)
 
 pub show-requires : goal.show-requires
 show-requires c = pair c.args.words.now c.requires.0 c.args.r c.requires.1 c.loop-p.invariant c.loop-p-test.true c.word-a.ensures c.word-b.ensures

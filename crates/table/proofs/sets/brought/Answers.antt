@@ -19,7 +19,7 @@ module _ (words : List ℕ) (passed : Passed words) (from_end : Bool) (r : ℕ) 
   near w e = rw e (edged front)
 
   next : (w : ℕ) → w ≡ get_or (side_words words from_end r) 0 0 → 256 ≤ w → get_or (side_words words from_end r) 1 0 < 64
-  next w e = (near w e).terminal-next
+  next w e = (near w e).terminal_next
 
 pub word_from-near-requires : goal.word_from-near-requires
 word_from-near-requires c =
@@ -27,7 +27,7 @@ word_from-near-requires c =
     (l, c.requires.1, omega (arith, l.least c.args.r c.requires.1))
 
 pub overflow_shl-result : goal.overflow_shl-result
-overflow_shl-result c = (near c.args.words.now c.requires.0 c.args.from_end c.args.r c.requires.1 c.word_from-near.result c.word_from-near.ensures).terminal-near c.if-near-lt256.true
+overflow_shl-result c = (near c.args.words.now c.requires.0 c.args.from_end c.args.r c.requires.1 c.word_from-near.result c.word_from-near.ensures).terminal_near c.if-near-lt256.true
 
 pub returns-then-near-lt256 : goal.returns-then-near-lt256
 returns-then-near-lt256 c =
@@ -35,7 +35,7 @@ returns-then-near-lt256 c =
     rw (
       ← w.ensures,
       lt-ltb w.result 256 c.if-near-lt256.true,
-      one_shifted w.result ((near c.args.words.now c.requires.0 c.args.from_end c.args.r c.requires.1 w.result w.ensures).terminal-near c.if-near-lt256.true),
+      one_shifted w.result ((near c.args.words.now c.requires.0 c.args.from_end c.args.r c.requires.1 w.result w.ensures).terminal_near c.if-near-lt256.true),
     )
 
 pub word_from-requires : goal.word_from-requires
@@ -50,11 +50,11 @@ overflow_shl-result-2 c =
     rw c.word_from.ensures (next c.args.words.now c.requires.0 c.args.from_end c.args.r c.requires.1 c.word_from-near.result c.word_from-near.ensures c.if-near-lt256.false)
 
 pub offset_bounds-masks-near : goal.offset_bounds-masks-near
-offset_bounds-masks-near c = omega (arith, (near c.args.words.now c.requires.0 c.args.from_end c.args.r c.requires.1 c.word_from-near.result c.word_from-near.ensures).nonterminal-near)
+offset_bounds-masks-near c = omega (arith, (near c.args.words.now c.requires.0 c.args.from_end c.args.r c.requires.1 c.word_from-near.result c.word_from-near.ensures).nonterminal_near)
 
 pub bounds-masks-near : goal.bounds-masks-near
 bounds-masks-near c =
-    omega (arith, (near c.args.words.now c.requires.0 c.args.from_end c.args.r c.requires.1 c.word_from-near.result c.word_from-near.ensures).nonterminal-near, c.if-near-lt256.false)
+    omega (arith, (near c.args.words.now c.requires.0 c.args.from_end c.args.r c.requires.1 c.word_from-near.result c.word_from-near.ensures).nonterminal_near, c.if-near-lt256.false)
 
 pub returns : goal.returns
 returns c =

@@ -1,3 +1,4 @@
+-- `input::copy_words`: the measure is how many words are still to be written.
 use Rattle.std.proofs.Common.{length, ◌-◌}
 use Rattle.vectors.proofs.input.copy_words.Given as goal
 

@@ -1,3 +1,4 @@
+-- `input::read_piece`: the piece lies within the run. The measure is how many of its words are still to come.
 use Rattle.std.proofs.Common.{length, ◌-◌, ◌+◌, ◌≤◌, ◌≡◌}
 use Rattle.vectors.proofs.input.read_piece.Given as goal
 

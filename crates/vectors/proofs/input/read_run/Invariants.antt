@@ -1,3 +1,4 @@
+-- `input::read_run`: what is filled of the run lies within it. The measure is how many pieces are left.
 use Rattle.std.proofs.Common.{length, ◌≤◌, ◌≡◌}
 use Rattle.vectors.proofs.input.read_run.Given as goal
 

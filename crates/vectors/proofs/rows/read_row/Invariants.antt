@@ -1,3 +1,4 @@
+-- `rows::read_row`: the measures are the chunks still to be run, and then those still to be joined.
 use Rattle.std.proofs.Common.{◌-◌}
 use Rattle.vectors.proofs.rows.read_row.Given as goal
 

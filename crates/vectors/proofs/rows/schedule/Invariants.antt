@@ -1,3 +1,4 @@
+-- `rows::schedule`: the measure is how many calls are left.
 use Rattle.vectors.proofs.rows.schedule.Given as goal
 
 abbrev pub decreases-loop-left : goal.decreases-loop-left

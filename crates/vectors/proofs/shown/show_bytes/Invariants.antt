@@ -1,3 +1,4 @@
+-- `shown::show_bytes`: the measure is how many bytes are left.
 use Rattle.std.proofs.Common.{length, ◌-◌}
 use Rattle.vectors.proofs.shown.show_bytes.Given as goal
 

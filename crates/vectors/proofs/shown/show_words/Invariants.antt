@@ -1,3 +1,4 @@
+-- `shown::show_words`: the measure is how many words are left.
 use Rattle.std.proofs.Common.{length, ◌-◌}
 use Rattle.vectors.proofs.shown.show_words.Given as goal
 

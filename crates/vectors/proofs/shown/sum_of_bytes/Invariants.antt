@@ -1,3 +1,4 @@
+-- `shown::sum_of_bytes`: the measure is how many bytes are left.
 use Rattle.std.proofs.Common.{length, ◌-◌}
 use Rattle.vectors.proofs.shown.sum_of_bytes.Given as goal
 

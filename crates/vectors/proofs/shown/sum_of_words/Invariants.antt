@@ -1,3 +1,4 @@
+-- `shown::sum_of_words`: the measure is how many words are left.
 use Rattle.std.proofs.Common.{length, ◌-◌}
 use Rattle.vectors.proofs.shown.sum_of_words.Given as goal
 

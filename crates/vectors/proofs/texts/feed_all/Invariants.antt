@@ -1,3 +1,4 @@
+-- `texts::feed_all`: the measure is how many bytes are still to be fed.
 use Rattle.std.proofs.Common.{length, ◌-◌}
 use Rattle.vectors.proofs.texts.feed_all.Given as goal
 
