@@ -3,7 +3,8 @@
 -- parse has passed 11 for its work area, the words its formula counts are all zero when it ends, accepted or refused"; "anything beyond is untouched".
 -- Rests on PublicCalls and GivenDemand, on start's StartWords and layout's Lengths, and OwnMatrix.
 --
--- Main definition: ParseAreaLeft. Main statements: number-listed, lent-kept, beyond-kept, parse-area-left.
+-- Main definition: ParseAreaLeft.
+-- What is proved of them: proofs' AnswersDemand; here the lemma refused-first, which an edit names, and what it rests on.
 use Rattle.std.specs.Prelude.{◌≡◌, ◌⊎◌, ℕ, ◌≤◌, ◌<◌, length}
 use Rattle.std.proofs.Math.Path.{ap}
 use Rattle.std.proofs.Common.{arith}

@@ -4,7 +4,8 @@
 -- smaller. A call on an area is 15 exactly when the shape rules are broken; otherwise machine's sentences hold of the state that the area decodes to.
 -- Rests on PublicCalls, on language's Checks and Loads, start's Start, machine's AllowedExactly, GivenExactly and Counts, and ParseDemand.
 --
--- Main definitions: SetGiven, StepGiven, RunGiven, JoinGiven, ReportGiven, ParseGiven; GivenFor (of any call). Main statement: given-for.
+-- Main definitions: SetGiven, StepGiven, RunGiven, JoinGiven, ReportGiven, ParseGiven; GivenFor (of any call).
+-- What is proved of them: proofs' GivenDemand.
 use Rattle.std.specs.Prelude.{◌≡◌, ◌↔◌, ℕ, ◌*◌, ◌≤◌, ◌<◌}
 use Rattle.std.proofs.Math.Path.{ap}
 use Rattle.std.proofs.Common.{◌∙◌}

@@ -7,7 +7,8 @@
 -- A lent area in shape holds such a state: the one it decodes to. Its words have 16 bits, so its word 2 is below 65,536.
 -- Rests on OnWords, on machine's AllowedExactly and Counts, and shape's InShape and Safe.
 --
--- Main definitions: StepLeaves, RunLeaves, JoinLeaves. Main statements: step-demand, run-demand, join-demand; of a lent area: lent-state.
+-- Main definitions: StepLeaves, RunLeaves, JoinLeaves.
+-- What is proved of them: proofs' MoveDemand.
 use Rattle.std.proofs.Math.Path.{◌≡◌}
 use Rattle.std.specs.Prelude.{List, ◌++◌, ℕ}
 use Rattle.refusals.specs.declared.Answer.TheVariants.{Done}

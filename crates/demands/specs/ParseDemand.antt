@@ -6,7 +6,7 @@
 -- Rests on OwnMatrix, on parse's ParseCall and ParseGiven, start's Start and shape's Safe, and machine's GivenExactly and results' UncutRow.
 --
 -- Main definitions: RightTokens, UncutReader, entries_of, ParseReports, GotStuck.
--- What is proved of them: proofs' ParseDemand.
+-- What is proved of them: proofs' ParseDemand; here the lemma written, which an edit names, and what it rests on.
 use Rattle.std.specs.Prelude.{◌≡◌, false, ℕ, ◌*◌, ◌≤◌, ◌<◌, ltb, length, get_or, drop}
 use Rattle.std.proofs.Common.{sym, ◌∙◌, arith}
 use Rattle.std.proofs.Math.Path.{ap}

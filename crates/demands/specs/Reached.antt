@@ -5,8 +5,8 @@
 -- Since the list of calls is any list, what is said of the next call is said of every call of every list.
 -- Rests on Standing, on start's StartKept, and on machine's Counts and results' Bounded.
 --
--- Main definition: EachRight. Main statements: each_right, never-15, refused-changes-nothing, report-never-15, moves-counted, moves-few;
--- in-shape-there, low-there.
+-- Main definition: EachRight.
+-- What is proved of them: proofs' Reached.
 use Rattle.std.specs.Prelude.{◌≡◌, List, [], ◌∷◌, ℕ, ◌≤◌}
 use Rattle.std.proofs.Common.{arith}
 use Rattle.refusals.specs.declared.Refusal.TheVariants.{Unfinished}

@@ -3,7 +3,8 @@
 -- Document 01, "Moves of a chunk", and 15: "never .. for a state reached from such a load and start with those same words and matrix".
 -- Rests on Calls, OnWords and OwnMatrix, on start's Start and shape's Safe, and on machine's Schedules, Counts and GivenExactly.
 --
--- Main definitions: Standing, CallView. Main statements: standing-begun, call-view, standing-call, standing-after.
+-- Main definitions: Standing, CallView.
+-- What is proved of them: proofs' Standing.
 use Rattle.std.specs.Prelude.{◌≡◌, List, ◌++◌, ℕ, ◌≤◌, length}
 use Rattle.language.specs.Trees.{Span}
 use Rattle.machine.specs.States.{State, start}

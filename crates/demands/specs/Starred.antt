@@ -4,7 +4,8 @@
 -- Rests on language's Loads, start's Start, moving's Calls, parse's ParseCall and report's ReportCall; and on OnWords and OwnMatrix, by which an area's
 -- words are worked out as those of a state, and tests of the whole matrix are passed over.
 --
--- Main definitions: Question, Reply, reply_to, cases. Main statements: starred; begun-K.
+-- Main definitions: Question, Reply, reply_to, cases.
+-- What is proved of them: proofs' Starred.
 use Rattle.std.specs.Prelude.{◌≡◌, ℕ, ◌*◌, take}
 use mathlib.Core.List.{List, [], ◌∷◌}
 use Rattle.std.proofs.Math.Option.{Option, none, some}

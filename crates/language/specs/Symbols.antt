@@ -3,7 +3,8 @@
 -- words a terminal is its number, nonterminal k is 256 + k. "Sets and matrix": yields (1), equal (2), takes (3), blank (0).
 -- Rests on laws' Tests.
 --
--- Main definitions: Symbol, word_of, symbol_of, same_string, Relation, relation_number. Main statements: same_string-eq, same_string-refl.
+-- Main definitions: Symbol, word_of, symbol_of, same_string, Relation, relation_number.
+-- What is proved of them: proofs' Symbols.
 use Rattle.std.specs.Prelude.{Bool, true, false, ◌&&◌, List, [], ◌∷◌, ℕ, ◌+◌, ◌-◌, eqb, ltb}
 
 pub data Symbol : Type 0 where

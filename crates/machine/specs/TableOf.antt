@@ -3,7 +3,8 @@
 -- It is there for any words and any bytes; for accepted words and their own matrix it has every law that demands 2 and 3 ask.
 -- Rests on Moves, Laws and Spans, and on language's Loads and PassedWords.
 --
--- Main definitions: relation_from, relation_at, table_of, own_table. Main statements: end-mark-of-words, laws-of-words; own-end-mark, own-laws.
+-- Main definitions: relation_from, relation_at, table_of, own_table.
+-- What is proved of them: proofs' TableOf.
 use Rattle.std.specs.Prelude.{true, false, ◌&&◌, List, ℕ, zero, suc, ◌+◌, ◌*◌, ltb, get_or}
 use Rattle.language.specs.Symbols.{Relation, blank, yields, equal, takes}
 use Rattle.language.specs.Grammar.{left_side}
