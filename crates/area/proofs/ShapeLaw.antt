@@ -1,23 +1,27 @@
 -- What the proofs of the shape check's functions share: each test one step on, and the bounds that its counts keep.
 -- Rests on specs' Shape and ShapeCode.
 --
--- Main statements: sized_of; shape-left, shape-kept; scan-more, side-few; blank-next; countable, line-within.
+-- Main statements: sized_of; shape-left, shape-kept; scan-more, side-few; both-blank; countable, line-within; scan-step, walk-step.
 use Rattle.std.proofs.Common.{ℕ, zero, suc, ◌+◌, ◌*◌, ◌-◌, ◌<◌, ◌≤◌, ◌≡◌, refl, sym, ◌∙◌, Bool, true, false, ◌&&◌}
-use Rattle.std.proofs.Common.{List, [], ◌∷◌, length, get_or, drop, leb, ltb, eqb, arith}
+use Rattle.std.proofs.Common.{List, [], ◌∷◌, length, get_or, take, drop, leb, ltb, eqb, ap, arith, length-drop}
+use Rattle.std.specs.Prelude.{Option, Some, None, option_and_then}
+use Rattle.std.specs.List.{list_all}
 use Rattle.std.proofs.lemmas.Bool.{false≢true, true≢false, leb-true, eqb-true, ne_eqb}
 use Rattle.std.proofs.Math.Decide.{dec_le}
 use Rattle.std.proofs.lemmas.List.{drop-drop, get_or-drop}
 use Rattle.laws.specs.Picks.{pick, each_of, pick-with}
 use Rattle.language.specs.Words.{count_t, count_n}
-use Rattle.layout.specs.Layout.{need, slots_at}
+use Rattle.layout.specs.Layout.{need, slots_at, made_at_word}
 use Rattle.matrix.specs.GrammarShape.{grammar_in_shape}
+use Rattle.area.specs.declared.shape.Slot.{Slot}
+use Rattle.area.specs.declared.shape.Row.{Row}
 use Rattle.area.specs.declared.shape.Scan.{Scan}
 use Rattle.area.specs.declared.shape.Walk.{Walk}
-use Rattle.area.specs.Shape.{rule_c, symbol_fits, place_fits, tag, one_if_terminal, broken, opened, inner}
-use Rattle.area.specs.Shape.{scan_slot, scanned, fresh_scan, side, bounds_fit, status_fits, gone_fits, sides_fit, fallen, counted, line_of, walk_of, blank}
+use Rattle.area.specs.Shape.{rule_c, symbol_fits, place_fits, tag, one_if_terminal, opened, inner}
+use Rattle.area.specs.Shape.{scan_slot, scanned, fresh_scan, side, bounds_fit, status_fits, gone_fits, sides_fit, counted, both_sides, line_of, walked, walk_of, blank, rule_k}
 use Rattle.area.specs.Shape.{walk_fits, area_in_shape, in_shape}
-use Rattle.area.proofs.Joined.{gone-tests, row-gone, row-wrong, row-live, row-bounds}
-use Rattle.area.specs.ShapeCode.{Sized, Few, Within, Countable}
+use Rattle.area.proofs.Joined.{row-gone, row-wrong, row-live, row-bounds}
+use Rattle.area.specs.ShapeCode.{slot_of, row_of, Sized, Few, Within, Countable}
 
 -- ---- (c)
 
@@ -54,7 +58,8 @@ module _ (words matrix area : List ℕ) where
 
 pub scan-more : (t n tokens count slot at : ℕ) (xs : List ℕ) (st : Scan)
     → scanned t n tokens (suc count) slot (drop at xs) st
-    ≡ scanned t n tokens count (slot + 1) (drop (at + 4) xs) (scan_slot t n tokens slot st (get_or xs at 0) (get_or xs (at + 1) 0) (get_or xs (at + 2) 0) (get_or xs (at + 3) 0))
+    ≡ option_and_then (λ next. scanned t n tokens count (slot + 1) (drop (at + 4) xs) next)
+    (scan_slot t n tokens slot st (get_or xs at 0) (get_or xs (at + 1) 0) (get_or xs (at + 2) 0) (get_or xs (at + 3) 0))
 scan-more t n tokens count slot at xs st =
     let z : at + 0 ≡ at = omega arith in
     rw (drop-drop 4 at xs, get_or-drop at xs 0 0, get_or-drop at xs 1 0, get_or-drop at xs 2 0, get_or-drop at xs 3 0, z)
@@ -70,23 +75,28 @@ pub one-small : (s : ℕ) → one_if_terminal s ≤ 1
 one-small s =
     pick-with (λ v. v ≤ 1) (eqb s 0) (λ e. omega arith) (λ e. pick-with (λ v. v ≤ 1) (ltb s 256) (λ i. omega arith) (λ i. omega arith))
 
-module _ (t n tokens slot : ℕ) (st : Scan) (s m l b k : ℕ) (few : Few k st) where
-  abbrev More : Scan → Type 0
-  More r = Few (k + 1) r
+-- a scan that goes on has counted at most k of each
+abbrev pub FewOf : ℕ → Option Scan → Type 0
+FewOf k None = Unit {0}
+FewOf k (Some st) = Few k st
 
-  none-few : More broken
-  none-few = record { symbols = omega arith; terminals = omega arith; marks = omega arith }
+pub few-some : (k : ℕ) {o : Option Scan} {st : Scan} → FewOf k o → o ≡ Some st → Few k st
+few-some k few e = rw e at few
+
+module _ (t n tokens slot : ℕ) (st : Scan) (s m l b k : ℕ) (few : Few k st) where
+  abbrev More : Option Scan → Type 0
+  More r = FewOf (k + 1) r
 
   open-few : More (opened t n tokens slot st s m l b)
   open-few =
-      pick-with More (eqb l 0) (λ e. none-few)
+      pick-with More (eqb l 0) (λ e. tt)
       (λ e. pick-with More (symbol_fits t n s m)
       (λ fits. pick-with More (place_fits tokens slot s l)
       (λ i. pick-with More (eqb b (tag (l - 1) l))
       (λ j. record { symbols = omega arith; terminals = omega (arith, one-small s); marks = omega (arith, mark-small t n s m fits) })
-      (λ j. none-few))
-      (λ i. none-few))
-      (λ i. none-few))
+      (λ j. tt))
+      (λ i. tt))
+      (λ i. tt))
 
   inner-few : More (inner st s m l b)
   inner-few =
@@ -95,24 +105,29 @@ module _ (t n tokens slot : ℕ) (st : Scan) (s m l b k : ℕ) (few : Few k st) 
       (λ f. pick-with More (eqb l 0)
       (λ g. pick-with More (eqb b (tag (st.within - 1) st.size))
       (λ i. record { symbols = omega arith; terminals = omega arith; marks = omega arith })
-      (λ i. none-few))
-      (λ g. none-few))
-      (λ f. none-few))
-      (λ e. none-few)
+      (λ i. tt))
+      (λ g. tt))
+      (λ f. tt))
+      (λ e. tt)
 
   pub slot-few : More (scan_slot t n tokens slot st s m l b)
   unfolding scan_slot
-  slot-few = pick-with More st.ok (λ e. pick-with More (eqb st.within 0) (λ i. open-few) (λ i. inner-few)) (λ e. none-few)
+  slot-few = pick-with More (eqb st.within 0) (λ i. open-few) (λ i. inner-few)
 
-scanned-few : (t n tokens count slot : ℕ) (ws : List ℕ) (st : Scan) (k : ℕ) → Few k st → Few (k + count) (scanned t n tokens count slot ws st)
+scanned-few : (t n tokens count slot : ℕ) (ws : List ℕ) (st : Scan) (k : ℕ) → Few k st → FewOf (k + count) (scanned t n tokens count slot ws st)
 scanned-few t n tokens zero slot ws st k few = record { symbols = omega arith; terminals = omega arith; marks = omega arith }
 scanned-few t n tokens (suc count) slot ws st k few =
-    let e : k + suc count ≡ k + 1 + count = omega arith in
-    rw e (scanned-few t n tokens count (slot + 1) (drop 4 ws) (scan_slot t n tokens slot st (get_or ws 0 0) (get_or ws 1 0) (get_or ws 2 0) (get_or ws 3 0)) (k + 1)
-    (slot-few t n tokens slot st (get_or ws 0 0) (get_or ws 1 0) (get_or ws 2 0) (get_or ws 3 0) k few))
+    go (scan_slot t n tokens slot st (get_or ws 0 0) (get_or ws 1 0) (get_or ws 2 0) (get_or ws 3 0))
+    (slot-few t n tokens slot st (get_or ws 0 0) (get_or ws 1 0) (get_or ws 2 0) (get_or ws 3 0) k few)
+    (λ next h. scanned-few t n tokens count (slot + 1) (drop 4 ws) next (k + 1) h)
+  where
+    go : (o : Option Scan) → FewOf (k + 1) o → ((next : Scan) → Few (k + 1) next → FewOf (k + 1 + count) (scanned t n tokens count (slot + 1) (drop 4 ws) next))
+        → FewOf (k + suc count) (option_and_then (λ next. scanned t n tokens count (slot + 1) (drop 4 ws) next) o)
+    go None h rest = tt
+    go (Some next) h rest = let e : k + suc count ≡ k + 1 + count = omega arith in rw e (rest next h)
 
 -- a side of a chunk has at most as many symbols, terminals and marks as slots
-pub side-few : (t n : ℕ) (area : List ℕ) (from to : ℕ) → Few (to - from) (side t n area from to)
+pub side-few : (t n : ℕ) (area : List ℕ) (from to : ℕ) → FewOf (to - from) (side t n area from to)
 unfolding side
 side-few t n area from to =
     let none : Few 0 fresh_scan = record { symbols = omega arith; terminals = omega arith; marks = omega arith } in
@@ -121,15 +136,33 @@ side-few t n area from to =
 
 -- ---- words that are 0
 
-blank-more : (k i : ℕ) (xs : List ℕ) → blank (suc k) (drop i xs) ≡ pick (eqb (get_or xs i 0) 0) (blank k (drop (i + 1) xs)) false
-blank-more k i xs =
-    let z : i + 0 ≡ i = omega arith in
-    rw (drop-drop 1 i xs, get_or-drop i xs 0 0, z)
+and-pick : (a b : Bool) → (a && b) ≡ pick a b false
+and-pick true b = refl
+and-pick false b = refl
 
--- one word more looked at, after words that are all 0 or not (`zero`)
-pub blank-next : (zero : Bool) (k i : ℕ) (xs : List ℕ) → pick (zero && eqb (get_or xs i 0) 0) (blank k (drop (i + 1) xs)) false ≡ pick zero (blank (suc k) (drop i xs)) false
-blank-next true k i xs = sym (blank-more k i xs)
-blank-next false k i xs = refl
+-- the first words of a list
+blank-part : (k : ℕ) (ws : List ℕ) → k ≤ length ws → list_all (λ x. eqb x 0) (take k ws) ≡ blank k ws
+blank-part zero ws h = refl
+blank-part (suc k) [] h = absurd (omega arith)
+blank-part (suc k) (x ∷ ws) h = and-pick (eqb x 0) (list_all (λ x. eqb x 0) (take k ws)) ∙ ap (λ b. pick (eqb x 0) b false) (blank-part k ws (omega arith))
+
+-- .. and the words between two places
+blank-range : (from to : ℕ) (ws : List ℕ) → to ≤ length ws → list_all (λ x. eqb x 0) (take (to - from) (drop from ws)) ≡ blank (to - from) (drop from ws)
+blank-range from to ws h = blank-part (to - from) (drop from ws) (omega (arith, length-drop from ws))
+
+-- (k), from the tests of both runs of words
+pub both-blank : (area : List ℕ) (w : Walk) {tokens made from : ℕ} {slots reductions : Bool} → Sized area → tokens ≡ get_or area 0 0
+    → made ≡ slots_at area + 4 * (tokens + 2) → from ≡ slots_at area + 4 * w.at
+    → slots ≡ list_all (λ x. eqb x 0) (take (made - from) (drop from area))
+    → reductions ≡ list_all (λ x. eqb x 0) (take (made + 3 * tokens - (made + 3 * get_or area 4 0)) (drop (made + 3 * get_or area 4 0) area))
+    → (slots && reductions) ≡ rule_k area w
+both-blank area w {tokens} {made} {from} sized t m f d e =
+    let made-is : made_at_word area ≡ made = omega (arith, t, m) in
+    let from-is : slots_at area + 4 * w.at ≡ from = sym f in
+    let count : 3 * (get_or area 0 0 - get_or area 4 0) ≡ made + 3 * tokens - (made + 3 * get_or area 4 0) = omega (arith, t) in
+    let below = sized.long in
+    rw (d ∙ blank-range from made area (omega (arith, t, m, below)), e ∙ blank-range (made + 3 * get_or area 4 0) (made + 3 * tokens) area (omega (arith, t, m, below)), made-is, from-is, count)
+    (and-pick (blank (made - from) (drop from area)) (blank (made + 3 * tokens - (made + 3 * get_or area 4 0)) (drop (made + 3 * get_or area 4 0) area)))
 
 -- ---- a row of the table more
 
@@ -152,11 +185,20 @@ bounded_of tokens at f h e p =
       last = leb-true _ _ q.1.1.1.1.0;
     }
 
+-- a walk that goes on has counted at most k chunks
+abbrev pub WithinOf : ℕ → Option Walk → Type 0
+WithinOf k None = Unit {0}
+WithinOf k (Some w) = Within k w
+
+pub within-some : (k : ℕ) {o : Option Walk} {w : Walk} → WithinOf k o → o ≡ Some w → Within k w
+within-some k within e = rw e at within
+
 module _ (t n : ℕ) (area : List ℕ) (sized : Sized area) (k : ℕ) (w : Walk) (within : Within k w) (x f h e y : ℕ) where
-  pub countable : Bounded (get_or area 0 0) w.at f h e → Countable k e w (side t n area f h) (side t n area h e)
-  countable bounded =
-      let stack = side-few t n area f h in
-      let unread = side-few t n area h e in
+  pub countable : Bounded (get_or area 0 0) w.at f h e → {stack unread : Scan} → side t n area f h ≡ Some stack → side t n area h e ≡ Some unread
+      → Countable k e w stack unread
+  countable bounded p q =
+      let below = few-some (h - f) (side-few t n area f h) p in
+      let above = few-some (e - h) (side-few t n area h e) q in
       record {
         end_low = omega arith;
         live = within.live;
@@ -166,20 +208,22 @@ module _ (t n : ℕ) (area : List ℕ) (sized : Sized area) (k : ℕ) (w : Walk)
         terminals_low = omega arith;
       }
 
-  abbrev One : Walk → Type 0
-  One r = Within (k + 1) r
+  abbrev One : Option Walk → Type 0
+  One r = WithinOf (k + 1) r
 
-  none_within : One fallen
-  none_within =
-      record { at = omega arith; live = omega arith; running = omega arith; unread = omega arith; symbols = omega arith; terminals = omega arith }
-
-  same-within : One w
+  same-within : One (Some w)
   same-within =
-      record { at = omega arith; live = omega arith; running = omega arith; unread = omega arith; symbols = omega arith; terminals = omega arith }
+      record {
+        at = within.at;
+        live = omega arith;
+        running = omega arith;
+        unread = within.unread;
+        symbols = within.symbols;
+        terminals = within.terminals;
+      }
 
-  counted-within : Bounded (get_or area 0 0) w.at f h e → One (counted w (side t n area f h) (side t n area h e) x e)
-  counted-within bounded =
-      let can = countable bounded in
+  counted-within : {stack unread : Scan} → Countable k e w stack unread → Within (k + 1) (counted w stack unread x e)
+  counted-within can =
       record {
         at = can.end_low;
         live = omega arith;
@@ -189,20 +233,24 @@ module _ (t n : ℕ) (area : List ℕ) (sized : Sized area) (k : ℕ) (w : Walk)
         terminals = can.terminals_low;
       }
 
+  sides-within : Bounded (get_or area 0 0) w.at f h e → One (both_sides w x h e y (side t n area f h) (side t n area h e))
+  sides-within bounded = go (side t n area f h) (side t n area h e) refl refl
+    where
+      go : (below above : Option Scan) → side t n area f h ≡ below → side t n area h e ≡ above → One (both_sides w x h e y below above)
+      go None above p q = tt
+      go (Some stack) None p q = tt
+      go (Some stack) (Some unread) p q = pick-with One (sides_fit stack unread x h e y) (λ s. counted-within (countable bounded p q)) (λ s. tt)
+
   pub line-within : One (line_of t n area w x f h e y)
   unfolding line_of
   line-within =
-      pick-with One w.ok
-      (λ i. pick-with One (eqb x 0)
-      (λ j. pick-with One (gone_fits f h e y) (λ g. same-within) (λ g. none_within))
+      pick-with One (eqb x 0)
+      (λ j. pick-with One (gone_fits f h e y) (λ g. same-within) (λ g. tt))
       (λ j. pick-with One (status_fits x)
       (λ s. pick-with One (bounds_fit (get_or area 0 0) w.at f h e)
-      (λ p. pick-with One (sides_fit (side t n area f h) (side t n area h e) x h e y)
-      (λ q. counted-within (bounded_of (get_or area 0 0) w.at f h e p))
-      (λ q. none_within))
-      (λ p. none_within))
-      (λ s. none_within)))
-      (λ i. none_within)
+      (λ p. sides-within (bounded_of (get_or area 0 0) w.at f h e p))
+      (λ p. tt))
+      (λ s. tt))
 
 -- ---- a row of the table, from the values that the code holds
 
@@ -217,57 +265,83 @@ module _ (t n : ℕ) (area : List ℕ) (w : Walk) (x f h e y : ℕ) where
   abbrev bounds : Bool
   bounds = bounds_fit (get_or area 0 0) w.at f h e
 
-  abbrev next : Walk
-  next = pick (sides_fit (side t n area f h) (side t n area h e) x h e y) (counted w (side t n area f h) (side t n area h e) x e) fallen
+  abbrev next : Option Walk
+  next = both_sides w x h e y (side t n area f h) (side t n area h e)
 
-  pub line-gone : (w.ok && eqb x 0 && (eqb f 0 && eqb h 0 && eqb e 0 && eqb y 0)) ≡ true → w ≡ line_of t n area w x f h e y
+  pub line-gone : pick (eqb x 0) (gone_fits f h e y) false ≡ true → Some w ≡ line_of t n area w x f h e y
   unfolding line_of
-  line-gone g = row-gone next w fallen w.ok (eqb x 0) (gone_fits f h e y) status bounds (rw (gone-tests f h e y) at g)
+  line-gone g = row-gone next (Some w) None (eqb x 0) (gone_fits f h e y) status bounds g
 
   -- where `p` is what the tests of the status and the bounds are, over the first word
   module _ {tokens : ℕ} {p : Bool} (z : tokens ≡ get_or area 0 0) (d : p ≡ pick status (bounds_fit tokens w.at f h e) false) where
-    pub line-unfit : (w.ok && eqb x 0 && (eqb f 0 && eqb h 0 && eqb e 0 && eqb y 0)) ≡ false → (w.ok && p) ≡ false → fallen ≡ line_of t n area w x f h e y
+    pub line-unfit : pick (eqb x 0) (gone_fits f h e y) false ≡ false → p ≡ false → None ≡ line_of t n area w x f h e y
     unfolding line_of
-    line-unfit g k = row-wrong next w fallen w.ok (eqb x 0) (gone_fits f h e y) status bounds (rw (gone-tests f h e y) at g) (rw (d, z) at k)
+    line-unfit g k = row-wrong next (Some w) None (eqb x 0) (gone_fits f h e y) status bounds g (rw (d, z) at k)
 
-    module _ (k : (w.ok && p) ≡ true) where
+    module _ (k : p ≡ true) where
       pub line-bounded : Bounded (get_or area 0 0) w.at f h e
-      line-bounded = bounded_of (get_or area 0 0) w.at f h e (row-bounds w.ok status bounds (rw (d, z) at k))
+      line-bounded = bounded_of (get_or area 0 0) w.at f h e (row-bounds status bounds (rw (d, z) at k))
 
       by-sides : next ≡ line_of t n area w x f h e y
       unfolding line_of
-      by-sides = row-live next w fallen w.ok (eqb x 0) (gone_fits f h e y) status bounds (rw (d, z) at k) (status-some x)
+      by-sides = row-live next (Some w) None (eqb x 0) (gone_fits f h e y) status bounds (rw (d, z) at k) (status-some x)
 
-      module _ {stack unread : Scan} {r : Bool} (ss : stack ≡ side t n area f h) (us : unread ≡ side t n area h e) (rs : r ≡ sides_fit stack unread x h e y) where
-        sides : r ≡ sides_fit (side t n area f h) (side t n area h e) x h e y
-        sides = rw (ss, us) at rs
+      pub stack-broken : side t n area f h ≡ None → None ≡ line_of t n area w x f h e y
+      stack-broken p = (let q : next ≡ None = rw p in sym q) ∙ by-sides
 
-        pub sides-unfit : r ≡ false → fallen ≡ line_of t n area w x f h e y
-        sides-unfit j = (let q : next ≡ fallen = simp (sym sides ∙ j) in sym q) ∙ by-sides
+      module _ {stack : Scan} (ss : side t n area f h ≡ Some stack) where
+        pub unread-broken : side t n area h e ≡ None → None ≡ line_of t n area w x f h e y
+        unread-broken p = (let q : next ≡ None = rw (ss, p) in sym q) ∙ by-sides
 
-        pub line-fit : r ≡ true → counted w stack unread x e ≡ line_of t n area w x f h e y
-        line-fit j = rw (ss, us) ((let q : next ≡ counted w (side t n area f h) (side t n area h e) x e = simp (sym sides ∙ j) in sym q) ∙ by-sides)
+        module _ {unread : Scan} (us : side t n area h e ≡ Some unread) {r : Bool} (rs : r ≡ sides_fit stack unread x h e y) where
+          pub sides-unfit : r ≡ false → None ≡ line_of t n area w x f h e y
+          sides-unfit j = (let q : next ≡ None = rw (ss, us, sym rs ∙ j) in sym q) ∙ by-sides
+
+          pub line-fit : r ≡ true → Some (counted w stack unread x e) ≡ line_of t n area w x f h e y
+          line-fit j = (let q : next ≡ Some (counted w stack unread x e) = rw (ss, us, sym rs ∙ j) in sym q) ∙ by-sides
 
 -- ---- the loops over slots and over rows
 
-pub one_of : {i end : ℕ} → i < end → end - i ≡ suc (end - (i + 1))
-one_of h = omega arith
+-- what is left of a scan of the slots up to `to`, one slot on
+module _ (t n tokens to slot : ℕ) (area : List ℕ) (st : Scan) (h : slot < to) where
+  abbrev slot_here : Slot
+  slot_here = slot_of area slot
 
-pub passed-more : {from slot : ℕ} → from ≤ slot → slot + 1 - from ≡ slot - from + 1
-passed-more h = omega arith
+  abbrev scan_left : ℕ → Scan → Option Scan
+  scan_left at scan = scanned t n tokens (to - at) at (drop (slots_at area + 4 * at) area) scan
 
-pub few-fresh : (from : ℕ) → Few (from - from) fresh_scan
-few-fresh from = record { symbols = omega arith; terminals = omega arith; marks = omega arith }
+  pub scan-step : {o : Option Scan} → scan_slot t n tokens slot st slot_here.symbol slot_here.mark slot_here.size slot_here.last ≡ o
+      → scan_left slot st ≡ option_and_then (λ next. scan_left (slot + 1) next) o
+  scan-step e =
+      let p : to - slot ≡ suc (to - (slot + 1)) = omega arith in
+      let q : slots_at area + 4 * (slot + 1) ≡ slots_at area + 4 * slot + 4 = omega arith in
+      rw (p, q)
+      (scan-more t n tokens (to - (slot + 1)) slot (slots_at area + 4 * slot) area st
+      ∙ ap (λ o. option_and_then (λ next. scanned t n tokens (to - (slot + 1)) (slot + 1) (drop (slots_at area + 4 * slot + 4) area) next) o) e)
 
--- a row of the table
-pub within-here : {area : List ℕ} → Sized area → {i count : ℕ} → i < count → count ≡ get_or area 1 0 → (w : Walk) → Within i w → Within 63 w
-within-here sized {i = i} h few w within =
-    let k : i ≤ 63 = omega (arith, sized.few_chunks) in
-    record {
-      at = within.at;
-      live = omega (arith, within.live);
-      running = omega (arith, within.running);
-      unread = within.unread;
-      symbols = within.symbols;
-      terminals = within.terminals;
-    }
+-- what is left of a walk, one row on
+module _ (t n c : ℕ) (area : List ℕ) (w : Walk) (h : c < get_or area 1 0) where
+  abbrev row_here : Row
+  row_here = row_of area (5 + 5 * c)
+
+  abbrev walk_left : ℕ → Walk → Option Walk
+  walk_left i walk = walked t n area (get_or area 1 0 - i) (5 + 5 * i) walk
+
+  pub walk-step : {o : Option Walk} → line_of t n area w row_here.status row_here.from row_here.head row_here.end row_here.marks ≡ o
+      → walk_left c w ≡ option_and_then (λ next. walk_left (c + 1) next) o
+  walk-step e =
+      let p : get_or area 1 0 - c ≡ suc (get_or area 1 0 - (c + 1)) = omega arith in
+      let q : 5 + 5 * (c + 1) ≡ 5 + 5 * c + 5 = omega arith in
+      rw (p, q) (ap (λ o. option_and_then (λ next. walked t n area (get_or area 1 0 - (c + 1)) (5 + 5 * c + 5) next) o) e)
+
+  pub within-here : Sized area → Within c w → Within 63 w
+  within-here sized within =
+      let k : c ≤ 63 = omega (arith, sized.few_chunks) in
+      record {
+        at = within.at;
+        live = omega (arith, within.live);
+        running = omega (arith, within.running);
+        unread = within.unread;
+        symbols = within.symbols;
+        terminals = within.terminals;
+      }

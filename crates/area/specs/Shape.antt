@@ -6,6 +6,7 @@
 --
 -- Main definitions: rule_c; (d) to (h) in one walk of the chunk table, walked; rule_i, rule_j, rule_k; area_in_shape, in_shape.
 use Rattle.std.specs.Prelude.{Bool, true, false, List, [], ◌∷◌, ℕ, zero, suc, ◌+◌, ◌*◌, ◌-◌, pred, leb, ltb, eqb, length, get_or, drop}
+use Rattle.std.specs.Prelude.{Option, Some, None, option_and_then}
 use Rattle.laws.specs.Picks.{pick, all_of}
 use Rattle.language.specs.Words.{count_t, count_n}
 use Rattle.results.specs.Bounded.{most_moves}
@@ -42,47 +43,45 @@ tag (suc k) l = 0
 abbrev pub one_if_terminal : ℕ → ℕ
 one_if_terminal s = pick (eqb s 0) 0 (pick (ltb s 256) 1 0)
 
-abbrev pub broken : Scan
-broken = record { ok = false; within = 0; size = 0; symbols = 0; terminals = 0; marks = 0 }
-
--- a slot at which a symbol starts: symbol s, mark m, l slots, last word b
-abbrev pub opened : ℕ → ℕ → ℕ → ℕ → Scan → ℕ → ℕ → ℕ → ℕ → Scan
+-- a slot at which a symbol starts: symbol s, mark m, l slots, last word b; none where a word of it is wrong
+abbrev pub opened : ℕ → ℕ → ℕ → ℕ → Scan → ℕ → ℕ → ℕ → ℕ → Option Scan
 opened t n tokens slot st s m l b =
-    pick (eqb l 0) broken
+    pick (eqb l 0) None
     (pick (symbol_fits t n s m)
     (pick (place_fits tokens slot s l)
     (pick (eqb b (tag (l - 1) l))
-    (record { ok = true; within = l - 1; size = l; symbols = st.symbols + 1; terminals = st.terminals + one_if_terminal s; marks = st.marks + m })
-    broken) broken) broken)
+    (Some (record { within = l - 1; size = l; symbols = st.symbols + 1; terminals = st.terminals + one_if_terminal s; marks = st.marks + m }))
+    None) None) None)
 
 -- a slot inside a symbol: its words are 0, but for the last of the last slot
-abbrev pub inner : Scan → ℕ → ℕ → ℕ → ℕ → Scan
+abbrev pub inner : Scan → ℕ → ℕ → ℕ → ℕ → Option Scan
 inner st s m l b =
     pick (eqb s 0) (pick (eqb m 0) (pick (eqb l 0)
     (pick (eqb b (tag (st.within - 1) st.size))
-    (record { ok = true; within = st.within - 1; size = st.size; symbols = st.symbols; terminals = st.terminals; marks = st.marks })
-    broken) broken) broken) broken
+    (Some (record { within = st.within - 1; size = st.size; symbols = st.symbols; terminals = st.terminals; marks = st.marks }))
+    None) None) None) None
 
 -- one slot more
-unfoldable pub scan_slot : ℕ → ℕ → ℕ → ℕ → Scan → ℕ → ℕ → ℕ → ℕ → Scan
-scan_slot t n tokens slot st s m l b = pick st.ok (pick (eqb st.within 0) (opened t n tokens slot st s m l b) (inner st s m l b)) broken
+unfoldable pub scan_slot : ℕ → ℕ → ℕ → ℕ → Scan → ℕ → ℕ → ℕ → ℕ → Option Scan
+scan_slot t n tokens slot st s m l b = pick (eqb st.within 0) (opened t n tokens slot st s m l b) (inner st s m l b)
 
 -- that many slots more, from this slot on; ws is the words from there on
-abbrev pub scanned : ℕ → ℕ → ℕ → ℕ → ℕ → List ℕ → Scan → Scan
-scanned t n tokens zero slot ws st = st
+abbrev pub scanned : ℕ → ℕ → ℕ → ℕ → ℕ → List ℕ → Scan → Option Scan
+scanned t n tokens zero slot ws st = Some st
 scanned t n tokens (suc count) slot ws st =
-    scanned t n tokens count (slot + 1) (drop 4 ws) (scan_slot t n tokens slot st (get_or ws 0 0) (get_or ws 1 0) (get_or ws 2 0) (get_or ws 3 0))
+    option_and_then (λ next. scanned t n tokens count (slot + 1) (drop 4 ws) next)
+    (scan_slot t n tokens slot st (get_or ws 0 0) (get_or ws 1 0) (get_or ws 2 0) (get_or ws 3 0))
 
 abbrev pub fresh_scan : Scan
-fresh_scan = record { ok = true; within = 0; size = 0; symbols = 0; terminals = 0; marks = 0 }
+fresh_scan = record { within = 0; size = 0; symbols = 0; terminals = 0; marks = 0 }
 
 -- one side of a chunk: the slots from `from` up to `to`
-unfoldable pub side : ℕ → ℕ → List ℕ → ℕ → ℕ → Scan
+unfoldable pub side : ℕ → ℕ → List ℕ → ℕ → ℕ → Option Scan
 side t n area from to = scanned t n (get_or area 0 0) (to - from) from (drop (slots_at area + 4 * from) area) fresh_scan
 
 -- (f) whole symbols
 abbrev pub side_fits : Scan → Bool
-side_fits st = pick st.ok (eqb st.within 0) false
+side_fits st = eqb st.within 0
 
 -- (d) 1 running; 17 to 20 stuck so
 abbrev pub status_fits : ℕ → Bool
@@ -105,13 +104,9 @@ abbrev pub sides_fit : Scan → Scan → ℕ → ℕ → ℕ → ℕ → Bool
 sides_fit stack unread x h e y =
     all_of (side_fits stack ∷ side_fits unread ∷ eqb unread.marks 0 ∷ eqb y stack.marks ∷ stuck_fits x h e y ∷ [])
 
-abbrev pub fallen : Walk
-fallen = record { ok = false; at = 0; live = 0; running = 0; unread = 0; symbols = 0; terminals = 0 }
-
 -- a live chunk's counts added
 abbrev pub counted : Walk → Scan → Scan → ℕ → ℕ → Walk
 counted w stack unread x e = record {
-  ok = true;
   at = e;
   live = w.live + 1;
   running = w.running + pick (eqb x 1) 1 0;
@@ -120,30 +115,35 @@ counted w stack unread x e = record {
   terminals = w.terminals + stack.terminals + unread.terminals;
 }
 
--- a live chunk's row: status x, from f, head h, end e, marks y
-abbrev pub live_line : ℕ → ℕ → List ℕ → Walk → ℕ → ℕ → ℕ → ℕ → ℕ → Walk
+-- both sides of a live chunk's row, where its bounds fit
+abbrev pub both_sides : Walk → ℕ → ℕ → ℕ → ℕ → Option Scan → Option Scan → Option Walk
+both_sides w x h e y below above =
+    option_and_then (λ stack. option_and_then (λ unread. pick (sides_fit stack unread x h e y) (Some (counted w stack unread x e)) None) above) below
+
+-- a live chunk's row: status x, from f, head h, end e, marks y; none where it breaks a rule
+abbrev pub live_line : ℕ → ℕ → List ℕ → Walk → ℕ → ℕ → ℕ → ℕ → ℕ → Option Walk
 live_line t n area w x f h e y =
     pick (status_fits x)
-    (pick (bounds_fit (get_or area 0 0) w.at f h e)
-    (pick (sides_fit (side t n area f h) (side t n area h e) x h e y) (counted w (side t n area f h) (side t n area h e) x e) fallen)
-    fallen) fallen
+    (pick (bounds_fit (get_or area 0 0) w.at f h e) (both_sides w x h e y (side t n area f h) (side t n area h e)) None)
+    None
 
 -- one row of the table more
-unfoldable pub line_of : ℕ → ℕ → List ℕ → Walk → ℕ → ℕ → ℕ → ℕ → ℕ → Walk
-line_of t n area w x f h e y =
-    pick w.ok (pick (eqb x 0) (pick (gone_fits f h e y) w fallen) (live_line t n area w x f h e y)) fallen
+unfoldable pub line_of : ℕ → ℕ → List ℕ → Walk → ℕ → ℕ → ℕ → ℕ → ℕ → Option Walk
+line_of t n area w x f h e y = pick (eqb x 0) (pick (gone_fits f h e y) (Some w) None) (live_line t n area w x f h e y)
 
 -- that many rows more, from word i on
-abbrev pub walked : ℕ → ℕ → List ℕ → ℕ → ℕ → Walk → Walk
-walked t n area zero i w = w
+abbrev pub walked : ℕ → ℕ → List ℕ → ℕ → ℕ → Walk → Option Walk
+walked t n area zero i w = Some w
 walked t n area (suc count) i w =
-    walked t n area count (i + 5)
+    option_and_then (λ next. walked t n area count (i + 5) next)
     (line_of t n area w (get_or area i 0) (get_or area (i + 1) 0) (get_or area (i + 2) 0) (get_or area (i + 3) 0) (get_or area (i + 4) 0))
 
+abbrev pub fresh_walk : Walk
+fresh_walk = record { at = 0; live = 0; running = 0; unread = 0; symbols = 0; terminals = 0 }
+
 -- (d) to (h) of every chunk
-unfoldable pub walk_of : ℕ → ℕ → List ℕ → Walk
-walk_of t n area =
-    walked t n area (get_or area 1 0) 5 (record { ok = true; at = 0; live = 0; running = 0; unread = 0; symbols = 0; terminals = 0 })
+unfoldable pub walk_of : ℕ → ℕ → List ℕ → Option Walk
+walk_of t n area = walked t n area (get_or area 1 0) 5 fresh_walk
 
 -- (d) chunk 0 is live, with at least one stack slot
 abbrev pub first_fits : List ℕ → Bool
@@ -178,8 +178,9 @@ rule_k area w =
     (blank (3 * (get_or area 0 0 - get_or area 4 0)) (drop (made_at_word area + 3 * get_or area 4 0) area)) false
 
 -- (d) to (k), from a walk of the table
-abbrev pub walk_fits : List ℕ → Walk → Bool
-walk_fits area w = all_of (w.ok ∷ first_fits area ∷ end_fits area w ∷ rule_i area w ∷ rule_j area w ∷ rule_k area w ∷ [])
+abbrev pub walk_fits : List ℕ → Option Walk → Bool
+walk_fits area None = false
+walk_fits area (Some w) = all_of (first_fits area ∷ end_fits area w ∷ rule_i area w ∷ rule_j area w ∷ rule_k area w ∷ [])
 
 unfoldable pub area_in_shape : ℕ → ℕ → List ℕ → Bool
 area_in_shape t n area = pick (rule_c area) (walk_fits area (walk_of t n area)) false

@@ -3,11 +3,28 @@
 -- Document 01, 15 BAD STATE, and "Grammar, tokens, cuts, work area and report are lent u16 slices".
 -- Rests on layout's Layout.
 --
--- Main definitions: Sized, Few, Within, Countable.
-use Rattle.std.specs.Prelude.{List, ℕ, ◌+◌, ◌≤◌, length, get_or}
-use Rattle.layout.specs.Layout.{need}
+-- Main definitions: slot_of, row_of, Sized, Few, Within, Countable.
+use Rattle.std.specs.Prelude.{List, ℕ, ◌+◌, ◌*◌, ◌≤◌, length, get_or}
+use Rattle.layout.specs.Layout.{need, slots_at}
+use Rattle.area.specs.declared.shape.Slot.{Slot}
+use Rattle.area.specs.declared.shape.Row.{Row}
 use Rattle.area.specs.declared.shape.Scan.{Scan}
 use Rattle.area.specs.declared.shape.Walk.{Walk}
+
+-- the slot of this number
+abbrev pub slot_of : List ℕ → ℕ → Slot
+slot_of area at = record {
+  at = at;
+  symbol = get_or area (slots_at area + 4 * at) 0;
+  mark = get_or area (slots_at area + 4 * at + 1) 0;
+  size = get_or area (slots_at area + 4 * at + 2) 0;
+  last = get_or area (slots_at area + 4 * at + 3) 0;
+}
+
+-- the row of the table whose words stand from word i on
+abbrev pub row_of : List ℕ → ℕ → Row
+row_of area i =
+    record { status = get_or area i 0; from = get_or area (i + 1) 0; head = get_or area (i + 2) 0; end = get_or area (i + 3) 0; marks = get_or area (i + 4) 0 }
 
 -- (c) as facts
 pub record Sized (area : List ℕ) : Type 0 where

@@ -6,6 +6,8 @@ mod shape;
 ghost use Rattle.std.specs.Prelude.{◌≡◌};
 ghost use Rattle.area.specs.Shape.{in_shape};
 
+use shape::Lent;
+
 // No shape rule is broken: the words are a grammar, the bytes a matrix of it, and the area a row being read.
 pub fn in_shape(words: &[u16], matrix: &[u8], area: &[u16]) -> bool
     ensures { result ≡ in_shape words.now matrix.now area.now }
@@ -14,7 +16,14 @@ pub fn in_shape(words: &[u16], matrix: &[u8], area: &[u16]) -> bool
     if !readable {
         return false;
     }
-    let t = shape::word(words, 0);
-    let n = shape::word(words, 1);
-    shape::walk_fits(area, shape::walk_table(area, t, n))
+    let lent = Lent {
+        area,
+        tokens: area[0],
+        terminals: words[0],
+        nonterminals: words[1],
+    };
+    match lent.walk_table() {
+        Some(walk) => lent.walk_fits(walk),
+        None => false,
+    }
 }

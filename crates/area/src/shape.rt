@@ -1,19 +1,41 @@
 // The shape rules (c) to (k) of docs/AREA.md, checked in one pass over the lent words.
 // Each function is a definition of specs/Shape.antt, or some of them joined, of which its contract is the equation.
 // Tests are joined by `&` and `|`, so that a function of many tests has one way through it.
-ghost use Rattle.std.specs.Prelude.{false, ◌≡◌, ◌+◌, ◌*◌, ◌-◌, ◌≤◌, ◌<◌, ◌^◌, pred, length, get_or, drop};
+ghost use Rattle.std.specs.Prelude.{false, ◌≡◌, ◌+◌, ◌*◌, ◌-◌, ◌≤◌, ◌<◌, ◌^◌, pred, eqb, length, get_or};
 ghost use Rattle.laws.specs.Picks.{pick};
 ghost use Rattle.layout.specs.Layout.{slots_at};
 ghost use Rattle.area.specs.Shape.{rule_c, symbol_fits, place_fits, tag, opened, inner, scan_slot, side};
-ghost use Rattle.area.specs.Shape.{status_fits, bounds_fit, sides_fit, counted, line_of, walk_of};
-ghost use Rattle.area.specs.Shape.{end_fits, potential_of, rule_j, blank, rule_k, walk_fits};
-ghost use Rattle.area.specs.ShapeCode.{Sized, Few, Within, Countable};
+ghost use Rattle.area.specs.Shape.{gone_fits, status_fits, bounds_fit, sides_fit, counted, line_of, walk_of};
+ghost use Rattle.area.specs.Shape.{end_fits, potential_of, rule_j, rule_k, walk_fits};
+ghost use Rattle.area.specs.ShapeCode.{slot_of, row_of, Sized, Few, Within, Countable};
 
-// Where a scan of one side of a chunk stands: within a symbol of `size` slots, `within` of them to come; how many symbols,
-// terminals other than # and marks it has passed.
+use matrix::all_are;
+
+// A slot, by its number: its four words.
 #[derive(Clone, Copy)]
+pub struct Slot {
+    pub at: u16,
+    pub symbol: u16,
+    pub mark: u16,
+    pub size: u16,
+    pub last: u16,
+}
+
+// The five words of a chunk's row of the table. The status stays a word, not an enum's value: rule (d) is of the area's own numbers (docs/AREA.md),
+// and each test compares it once.
+#[derive(Clone, Copy)]
+pub struct Row {
+    pub status: u16,
+    pub from: u16,
+    pub head: u16,
+    pub end: u16,
+    pub marks: u16,
+}
+
+// Where a scan of one side of a chunk stands (at first all 0): within a symbol of `size` slots, `within` of them to come; how many symbols,
+// terminals other than # and marks it has passed.
+#[derive(Clone, Copy, Default)]
 pub struct Scan {
-    pub ok: bool,
     pub within: u16,
     pub size: u16,
     pub symbols: u16,
@@ -21,11 +43,10 @@ pub struct Scan {
     pub marks: u16,
 }
 
-// Where a walk of the chunk table stands: the slot where the last live chunk ends; how many live chunks there were, how many not stuck,
+// Where a walk of the chunk table stands (at first all 0): the slot where the last live chunk ends; how many live chunks there were, how many not stuck,
 // and how many symbols unread, symbols in all and terminals other than # they have.
-#[derive(Clone, Copy)]
+#[derive(Clone, Copy, Default)]
 pub struct Walk {
-    pub ok: bool,
     pub at: u16,
     pub live: u16,
     pub running: u16,
@@ -34,58 +55,16 @@ pub struct Walk {
     pub terminals: u16,
 }
 
-// A scan that has passed nothing yet.
-const FRESH: Scan = Scan {
-    ok: true,
-    within: 0,
-    size: 0,
-    symbols: 0,
-    terminals: 0,
-    marks: 0,
-};
-
-// A scan that has met a wrong word.
-const BROKEN: Scan = Scan {
-    ok: false,
-    within: 0,
-    size: 0,
-    symbols: 0,
-    terminals: 0,
-    marks: 0,
-};
-
-// A walk that has met a wrong row.
-const FALLEN: Walk = Walk {
-    ok: false,
-    at: 0,
-    live: 0,
-    running: 0,
-    unread: 0,
-    symbols: 0,
-    terminals: 0,
-};
-
-// The word at place i.
-pub(crate) fn word(words: &[u16], i: usize) -> u16
-    requires { i < length words.now }
-    ensures { result ≡ get_or words.now i 0 }
-{
-    words[i]
-}
-
-// A word as an index or a summand.
-pub(crate) fn wide(x: u16) -> usize
-    ensures { (result ≡ x) × (result < 65536) }
-{
-    x as usize
-}
-
-// The word at place i as an index or a summand.
-fn wide_word(words: &[u16], i: usize) -> usize
-    requires { i < length words.now }
-    ensures { (result ≡ get_or words.now i 0) × (result < 65536) }
-{
-    words[i] as usize
+// The area of a row being read, whose sizes fit: its words, its number of tokens, and the grammar's numbers of terminals and nonterminals.
+#[derive(Clone, Copy)]
+pub(crate) struct Lent<'a> {
+    pub(crate) area: &'a [u16],
+    pub(crate) tokens: u16,
+    pub(crate) terminals: u16,
+    pub(crate) nonterminals: u16,
+    ghost sized: { Sized area.now },
+    ghost tokens_are: { tokens ≡ get_or area.now 0 0 },
+    ghost few: { nonterminals ≤ 64 },
 }
 
 // ---- (c) the sizes
@@ -98,8 +77,8 @@ pub(crate) fn sized(area: &[u16]) -> bool
     if len < 13 {
         return false;
     }
-    let tokens = wide_word(area, 0);
-    let count = wide_word(area, 1);
+    let tokens = area[0] as usize;
+    let count = area[1] as usize;
     (1 <= tokens)
         & (tokens <= 16384)
         & (1 <= count)
@@ -107,33 +86,7 @@ pub(crate) fn sized(area: &[u16]) -> bool
         & (7 * tokens + 5 * count + 13 <= len)
 }
 
-// The word at which this slot starts.
-fn slot_at(area: &[u16], slot: usize) -> usize
-    requires { Sized area.now × (slot < 65536) }
-    ensures { result ≡ slots_at area.now + 4 * slot }
-{
-    5 + 5 * wide_word(area, 1) + 4 * slot
-}
-
 // ---- (f) one side of a chunk
-
-// Symbol and mark: # or a terminal to t; a nonterminal below n, unmarked; a mark is 0 or 1 and never on #.
-fn symbol_fits(t: u16, n: u16, s: u16, m: u16) -> bool
-    requires { n ≤ 64 }
-    ensures { result ≡ symbol_fits t n s m }
-{
-    ((m == 0) & ((s <= t) | (!(s < 256) & (s < 256 + n)))) | ((m == 1) & (s != 0) & (s <= t))
-}
-
-// Symbol s of l slots at this slot: # in slots 0 and n+1 and nowhere else, one slot long.
-fn place_fits(tokens: u16, slot: u16, s: u16, l: u16) -> bool
-    requires { (tokens ≤ 16384) × (slot ≤ tokens + 1) }
-    ensures { result ≡ place_fits tokens slot s l }
-{
-    let last = tokens + 1;
-    let edge = (slot == 0) | (slot == last);
-    (edge & (s == 0) & (l == 1)) | (!edge & (s != 0) & (l <= last - slot))
-}
 
 // The last word of a slot from which on its symbol, of l slots, has k: 0, but for the last slot.
 fn tag_of(k: u16, l: u16) -> u16
@@ -142,224 +95,251 @@ fn tag_of(k: u16, l: u16) -> u16
     if k <= 1 { l } else { 0 }
 }
 
-// A slot at which a symbol starts: symbol s, mark m, l slots, last word b.
-fn open_symbol(
-    t: u16,
-    n: u16,
-    tokens: u16,
-    slot: u16,
-    st: Scan,
-    s: u16,
-    m: u16,
-    l: u16,
-    b: u16,
-) -> Scan
-    requires { (n ≤ 64) × (tokens ≤ 16384) × Few 16386 st × (slot ≤ tokens + 1) }
-    ensures { result ≡ opened t n tokens slot st s m l b }
-{
-    let fits = (l != 0)
-        & symbol_fits(t, n, s, m)
-        & place_fits(tokens, slot, s, l)
-        & (b == tag_of(l, l));
-    if !fits {
-        return BROKEN;
-    }
-    let terminal = (s != 0) & (s < 256);
-    Scan {
-        ok: true,
-        within: l - 1,
-        size: l,
-        symbols: st.symbols + 1,
-        terminals: st.terminals + terminal as u16,
-        marks: st.marks + m,
-    }
-}
-
-// A slot inside a symbol: its words are 0, but for the last of the last slot.
-fn inside(st: Scan, s: u16, m: u16, l: u16, b: u16) -> Scan
-    requires { 0 < st.within }
-    ensures { result ≡ inner st s m l b }
-{
-    let fits = (s == 0) & (m == 0) & (l == 0) & (b == tag_of(st.within, st.size));
-    if !fits {
-        return BROKEN;
-    }
-    Scan {
-        ok: true,
-        within: st.within - 1,
-        size: st.size,
-        symbols: st.symbols,
-        terminals: st.terminals,
-        marks: st.marks,
-    }
-}
-
-// One slot more.
-fn scan_slot(
-    t: u16,
-    n: u16,
-    tokens: u16,
-    slot: u16,
-    st: Scan,
-    s: u16,
-    m: u16,
-    l: u16,
-    b: u16,
-) -> Scan
-    requires { (n ≤ 64) × (tokens ≤ 16384) × Few 16386 st × (slot ≤ tokens + 1) }
-    ensures { result ≡ scan_slot t n tokens slot st s m l b }
-{
-    if st.ok {
-        if st.within == 0 {
-            return open_symbol(t, n, tokens, slot, st, s, m, l, b);
+impl Scan {
+    // A slot inside a symbol: its words are 0, but for the last of the last slot.
+    fn inside(self, slot: Slot) -> Option<Scan>
+        requires { 0 < self.within }
+        ensures { result ≡ inner self slot.symbol slot.mark slot.size slot.last }
+    {
+        let fits = (slot.symbol == 0)
+            & (slot.mark == 0)
+            & (slot.size == 0)
+            & (slot.last == tag_of(self.within, self.size));
+        if !fits {
+            return None;
         }
-        return inside(st, s, m, l, b);
+        Some(Scan {
+            within: self.within - 1,
+            ..self
+        })
     }
-    BROKEN
 }
 
-// One side of a chunk: the slots from `from` up to `to`.
-fn side(area: &[u16], t: u16, n: u16, from: u16, to: u16) -> Scan
-    requires { (n ≤ 64) × Sized area.now × (to ≤ get_or area.now 0 0 + 2) }
-    ensures { result ≡ side t n area.now from to }
-{
-    let tokens = word(area, 0);
-    let mut st = FRESH;
-    let mut at = slot_at(area, wide(from));
-    let mut slot = from;
-    while slot < to {
-        st = scan_slot(
-            t,
-            n,
-            tokens,
-            slot,
-            st,
-            word(area, at),
-            word(area, at + 1),
-            word(area, at + 2),
-            word(area, at + 3),
-        );
-        at += 4;
-        slot += 1;
+impl Lent<'_> {
+    // The word at which this slot starts.
+    fn slot_at(&self, at: u16) -> usize
+        ensures { result ≡ slots_at self.now.area.now + 4 * at }
+    {
+        5 + 5 * self.area[1] as usize + 4 * at as usize
     }
-    st
+
+    // The words of this slot.
+    fn slot(&self, at: u16) -> Slot
+        requires { at ≤ self.now.tokens + 1 }
+        ensures { result ≡ slot_of self.now.area.now at }
+    {
+        let word = self.slot_at(at);
+        Slot {
+            at,
+            symbol: self.area[word],
+            mark: self.area[word + 1],
+            size: self.area[word + 2],
+            last: self.area[word + 3],
+        }
+    }
+
+    // Symbol and mark: # or a terminal to T; a nonterminal below N, unmarked; a mark is 0 or 1 and never on #.
+    fn symbol_fits(&self, slot: Slot) -> bool
+        ensures { result ≡ symbol_fits self.now.terminals self.now.nonterminals slot.symbol slot.mark }
+    {
+        let Slot { symbol, mark, .. } = slot;
+        let terminal = symbol <= self.terminals;
+        let nonterminal = !(symbol < 256) & (symbol < 256 + self.nonterminals);
+        ((mark == 0) & (terminal | nonterminal)) | ((mark == 1) & (symbol != 0) & terminal)
+    }
+
+    // Where the symbol stands: # in slots 0 and n+1 and nowhere else, one slot long.
+    fn place_fits(&self, slot: Slot) -> bool
+        ensures { result ≡ place_fits self.now.tokens slot.at slot.symbol slot.size }
+    {
+        let Slot {
+            at,
+            symbol,
+            size,
+            ..
+        } = slot;
+        let last = self.tokens + 1;
+        let edge = (at == 0) | (at == last);
+        let within = at as u32 + size as u32 <= last as u32;
+        (edge & (symbol == 0) & (size == 1)) | (!edge & (symbol != 0) & within)
+    }
+
+    // A slot at which a symbol starts.
+    fn open_symbol(&self, scan: Scan, slot: Slot) -> Option<Scan>
+        requires { Few 16386 scan }
+        ensures { result ≡ opened self.now.terminals self.now.nonterminals self.now.tokens slot.at scan slot.symbol slot.mark slot.size slot.last }
+    {
+        let Slot {
+            symbol,
+            mark,
+            size,
+            ..
+        } = slot;
+        let fits = (size != 0)
+            & self.symbol_fits(slot)
+            & self.place_fits(slot)
+            & (slot.last == tag_of(size, size));
+        if !fits {
+            return None;
+        }
+        let terminal = (symbol != 0) & (symbol < 256);
+        Some(Scan {
+            within: size - 1,
+            size,
+            symbols: scan.symbols + 1,
+            terminals: scan.terminals + terminal as u16,
+            marks: scan.marks + mark,
+        })
+    }
+
+    // One slot more.
+    #[tactic(auto, unfolding(crate::specs::Shape::scan_slot))]
+    fn scan_slot(&self, scan: Scan, slot: Slot) -> Option<Scan>
+        requires { Few 16386 scan }
+        ensures { result ≡ scan_slot self.now.terminals self.now.nonterminals self.now.tokens slot.at scan slot.symbol slot.mark slot.size slot.last }
+    {
+        if scan.within == 0 {
+            return self.open_symbol(scan, slot);
+        }
+        scan.inside(slot)
+    }
+
+    // One side of a chunk: the slots from `from` up to `to`.
+    fn side(&self, from: u16, to: u16) -> Option<Scan>
+        requires { to ≤ self.now.tokens + 2 }
+        ensures { result ≡ side self.now.terminals self.now.nonterminals self.now.area.now from to }
+    {
+        let mut scan = Scan::default();
+        for at in from..to {
+            scan = self.scan_slot(scan, self.slot(at))?;
+        }
+        Some(scan)
+    }
+
+    // The row of chunk c.
+    fn row(&self, c: u16) -> Row
+        requires { c < get_or self.now.area.now 1 0 }
+        ensures { result ≡ row_of self.now.area.now (5 + 5 * c) }
+    {
+        let word = 5 + 5 * c as usize;
+        Row {
+            status: self.area[word],
+            from: self.area[word + 1],
+            head: self.area[word + 2],
+            end: self.area[word + 3],
+            marks: self.area[word + 4],
+        }
+    }
+
+    // (d) A live chunk's status: 1 running; 17 to 20 stuck so.
+    // (e) From is the end of the live chunk before it and at most n+1; from, head, end in order, the end at most n+2.
+    fn bounds_fit(&self, at: u16, row: Row) -> bool
+        ensures { result ≡ pick (status_fits row.status) (bounds_fit self.now.tokens at row.from row.head row.end) false }
+    {
+        ((row.status == 1) | (!(row.status < 17) & (row.status <= 20)))
+            & ((row.from == at)
+                & (row.from <= self.tokens + 1)
+                & (row.from <= row.head)
+                & (row.head <= row.end)
+                & (row.end <= self.tokens + 2))
+    }
+
+    // One row of the table more.
+    fn line(&self, walk: Walk, row: Row) -> Option<Walk>
+        requires { Within 63 walk }
+        ensures { result ≡ line_of self.now.terminals self.now.nonterminals self.now.area.now walk row.status row.from row.head row.end row.marks }
+    {
+        if row.is_gone() {
+            return Some(walk);
+        }
+        if !self.bounds_fit(walk.at, row) {
+            return None;
+        }
+        let stack = self.side(row.from, row.head)?;
+        let unread = self.side(row.head, row.end)?;
+        if !row.sides_fit(stack, unread) {
+            return None;
+        }
+        Some(walk.counting(row, stack, unread))
+    }
+
+    // (d) to (h) of every chunk.
+    pub(crate) fn walk_table(&self) -> Option<Walk>
+        ensures { result ≡ walk_of self.now.terminals self.now.nonterminals self.now.area.now }
+    {
+        let mut walk = Walk::default();
+        for c in 0..self.area[1] {
+            walk = self.line(walk, self.row(c))?;
+        }
+        Some(walk)
+    }
 }
 
 // ---- (d) to (h) of one chunk
 
-// (d) A live chunk's status: 1 running; 17 to 20 stuck so.
-// (e) From is the end of the live chunk before it and at most n+1; from, head, end in order, the end at most n+2.
-fn bounds_fit(tokens: u16, at: u16, x: u16, f: u16, h: u16, e: u16) -> bool
-    requires { tokens ≤ 16384 }
-    ensures { result ≡ pick (status_fits x) (bounds_fit tokens at f h e) false }
-{
-    ((x == 1) | (!(x < 17) & (x <= 20)))
-        & ((f == at) & (f <= tokens + 1) & (f <= h) & (h <= e) & (e <= tokens + 2))
-}
+impl Row {
+    // (d) A gone chunk's row is zeros.
+    fn is_gone(self) -> bool
+        ensures { result ≡ pick (eqb self.status 0) (gone_fits self.from self.head self.end self.marks) false }
+    {
+        (self.status == 0)
+            & (self.from == 0)
+            & (self.head == 0)
+            & (self.end == 0)
+            & (self.marks == 0)
+    }
 
-// Of a live chunk, from the scans of its stack and of its unread side: (f) each is whole symbols, (g) the marks are those on the stack,
-// (h) a stuck chunk has something unread, one stuck with 18 has a mark.
-fn sides_fit(stack: Scan, unread: Scan, x: u16, h: u16, e: u16, y: u16) -> bool
-    ensures { result ≡ sides_fit stack unread x h e y }
-{
-    (stack.ok & (stack.within == 0))
-        & (unread.ok & (unread.within == 0))
-        & (unread.marks == 0)
-        & (y == stack.marks)
-        & ((x == 1) | ((h < e) & ((x != 18) | (1 <= y))))
-}
-
-// A live chunk's counts added.
-fn count_in(w: Walk, stack: Scan, unread: Scan, x: u16, e: u16) -> Walk
-    requires { Countable 63 e w stack unread }
-    ensures { result ≡ counted w stack unread x e }
-{
-    let running = x == 1;
-    Walk {
-        ok: true,
-        at: e,
-        live: w.live + 1,
-        running: w.running + running as u16,
-        unread: w.unread + unread.symbols,
-        symbols: w.symbols + stack.symbols + unread.symbols,
-        terminals: w.terminals + stack.terminals + unread.terminals,
+    // Of a live chunk, from the scans of its stack and of its unread side: (f) each is whole symbols, (g) the marks are those on the stack,
+    // (h) a stuck chunk has something unread, one stuck with 18 has a mark.
+    fn sides_fit(self, stack: Scan, unread: Scan) -> bool
+        ensures { result ≡ sides_fit stack unread self.status self.head self.end self.marks }
+    {
+        (stack.within == 0)
+            & (unread.within == 0)
+            & (unread.marks == 0)
+            & (self.marks == stack.marks)
+            & ((self.status == 1)
+                | ((self.head < self.end) & ((self.status != 18) | (1 <= self.marks))))
     }
 }
 
-// One row of the table more: status x, from f, head h, end e, marks y. (d) A gone chunk's row is zeros.
-fn line(area: &[u16], t: u16, n: u16, w: Walk, x: u16, f: u16, h: u16, e: u16, y: u16) -> Walk
-    requires { (n ≤ 64) × Sized area.now × Within 63 w }
-    ensures { result ≡ line_of t n area.now w x f h e y }
-{
-    if w.ok & (x == 0) & ((f == 0) & (h == 0) & (e == 0) & (y == 0)) {
-        return w;
+impl Walk {
+    // A live chunk's counts added.
+    fn counting(self, row: Row, stack: Scan, unread: Scan) -> Walk
+        requires { Countable 63 row.end self stack unread }
+        ensures { result ≡ counted self stack unread row.status row.end }
+    {
+        let running = row.status == 1;
+        Walk {
+            at: row.end,
+            live: self.live + 1,
+            running: self.running + running as u16,
+            unread: self.unread + unread.symbols,
+            symbols: self.symbols + stack.symbols + unread.symbols,
+            terminals: self.terminals + stack.terminals + unread.terminals,
+        }
     }
-    let fits = w.ok & bounds_fit(word(area, 0), w.at, x, f, h, e);
-    if !fits {
-        return FALLEN;
-    }
-    let stack = side(area, t, n, f, h);
-    let unread = side(area, t, n, h, e);
-    if !sides_fit(stack, unread, x, h, e, y) {
-        return FALLEN;
-    }
-    count_in(w, stack, unread, x, e)
-}
 
-// (d) to (h) of every chunk.
-pub(crate) fn walk_table(area: &[u16], t: u16, n: u16) -> Walk
-    requires { (n ≤ 64) × Sized area.now }
-    ensures { result ≡ walk_of t n area.now }
-{
-    let count = wide_word(area, 1);
-    let mut w = Walk {
-        ok: true,
-        at: 0,
-        live: 0,
-        running: 0,
-        unread: 0,
-        symbols: 0,
-        terminals: 0,
-    };
-    let mut at = 5;
-    let mut i = 0;
-    while i < count {
-        w = line(
-            area,
-            t,
-            n,
-            w,
-            word(area, at),
-            word(area, at + 1),
-            word(area, at + 2),
-            word(area, at + 3),
-            word(area, at + 4),
-        );
-        at += 5;
-        i += 1;
+    // The most moves that can still come.
+    fn potential(self) -> usize
+        ensures { (result ≡ potential_of self) × (result < 2 ^ 33) }
+    {
+        let others = one_less(self.live);
+        self.unread as usize
+            + times(one_less(self.symbols), others)
+            + self.terminals as usize
+            + 2 * others
+            + self.running as usize
     }
-    w
 }
 
 // ---- (d) to (k) of the whole
-
-// (e) The last live chunk's end is n+2, or n+1 if chunk 0 is the only live chunk and its head is n+1.
-fn end_fits(area: &[u16], w: Walk) -> bool
-    requires { Sized area.now }
-    ensures { result ≡ end_fits area.now w }
-{
-    let last = word(area, 0) + 1;
-    (w.at == last + 1) | ((w.at == last) & (w.live == 1) & (word(area, 7) == last))
-}
 
 // One less, and 0 of 0.
 fn one_less(x: u16) -> usize
     ensures { (result ≡ pred x) × (result < 65536) }
 {
-    if x == 0 {
-        return 0;
-    }
-    wide(x - 1)
+    x.saturating_sub(1) as usize
 }
 
 // The product of two words.
@@ -370,64 +350,48 @@ fn times(x: usize, y: usize) -> usize
     x * y
 }
 
-// The most moves that can still come.
-fn potential(w: Walk) -> usize
-    ensures { (result ≡ potential_of w) × (result < 2 ^ 33) }
-{
-    let others = one_less(w.live);
-    wide(w.unread)
-        + times(one_less(w.symbols), others)
-        + wide(w.terminals)
-        + 2 * others
-        + wide(w.running)
-}
-
-// (j) The moves made, and the most that can still come.
-fn rule_j(area: &[u16], w: Walk) -> bool
-    requires { Sized area.now }
-    ensures { result ≡ rule_j area.now w }
-{
-    let tokens = wide_word(area, 0);
-    let count = wide_word(area, 1);
-    let low = wide_word(area, 2);
-    let high = wide_word(area, 3);
-    low + 65536 * high + potential(w) <= times(tokens, count) + tokens + 4 * count - 2
-}
-
-// The words from `from` up to `to` are 0: all of them are looked at, with no exit before the end.
-fn blank(area: &[u16], from: usize, to: usize) -> bool
-    requires { to ≤ length area.now }
-    ensures { result ≡ blank (to - from) (drop from area.now) }
-{
-    let mut zero = true;
-    let mut i = from;
-    while i < to {
-        zero = zero & (area[i] == 0);
-        i += 1;
+impl Lent<'_> {
+    // (e) The last live chunk's end is n+2, or n+1 if chunk 0 is the only live chunk and its head is n+1.
+    fn end_fits(&self, walk: Walk) -> bool
+        ensures { result ≡ end_fits self.now.area.now walk }
+    {
+        let last = self.tokens + 1;
+        (walk.at == last + 1) | ((walk.at == last) & (walk.live == 1) & (self.area[7] == last))
     }
-    zero
-}
 
-// (k) Slots past the last end and unused reductions are zeros.
-fn rule_k(area: &[u16], w: Walk) -> bool
-    requires { Sized area.now }
-    ensures { result ≡ rule_k area.now w }
-{
-    let tokens = wide_word(area, 0);
-    let made = slot_at(area, tokens + 2);
-    blank(area, slot_at(area, wide(w.at)), made)
-        & blank(area, made + 3 * wide_word(area, 4), made + 3 * tokens)
-}
+    // (j) The moves made, and the most that can still come.
+    fn rule_j(&self, walk: Walk) -> bool
+        ensures { result ≡ rule_j self.now.area.now walk }
+    {
+        let tokens = self.tokens as usize;
+        let count = self.area[1] as usize;
+        let low = self.area[2] as usize;
+        let high = self.area[3] as usize;
+        low + 65536 * high + walk.potential() <= times(tokens, count) + tokens + 4 * count - 2
+    }
 
-// (d) to (k), from a walk of the table: among them (d) chunk 0 is live, with at least one stack slot, and (i) the reductions made and
-// the terminals other than # are at most n.
-pub(crate) fn walk_fits(area: &[u16], w: Walk) -> bool
-    requires { Sized area.now }
-    ensures { result ≡ walk_fits area.now w }
-{
-    w.ok & ((word(area, 5) != 0) & (1 <= word(area, 7)))
-        & end_fits(area, w)
-        & (wide_word(area, 4) + wide(w.terminals) <= wide_word(area, 0))
-        & rule_j(area, w)
-        & rule_k(area, w)
+    // (k) Slots past the last end and unused reductions are zeros.
+    fn rule_k(&self, walk: Walk) -> bool
+        requires { (walk.at ≤ self.now.tokens + 2) × (get_or self.now.area.now 4 0 ≤ self.now.tokens) }
+        ensures { result ≡ rule_k self.now.area.now walk }
+    {
+        let made = self.slot_at(self.tokens + 2);
+        let used = made + 3 * self.area[4] as usize;
+        let end = made + 3 * self.tokens as usize;
+        all_are(&self.area[self.slot_at(walk.at)..made], &0) & all_are(&self.area[used..end], &0)
+    }
+
+    // (d) to (k), from a walk of the table: among them (d) chunk 0 is live, with at least one stack slot, and (i) the reductions made and
+    // the terminals other than # are at most n.
+    pub(crate) fn walk_fits(&self, walk: Walk) -> bool
+        ensures { result ≡ walk_fits self.now.area.now (Some walk) }
+    {
+        // `rule_k` reads only where these hold.
+        let others = (self.area[5] != 0)
+            & (1 <= self.area[7])
+            & self.end_fits(walk)
+            & (self.area[4] as usize + walk.terminals as usize <= self.tokens as usize)
+            & self.rule_j(walk);
+        others && self.rule_k(walk)
+    }
 }

@@ -1,7 +1,7 @@
 -- What is proved of specs' AnswersDemand. Demand 1: of every public call, with any words lent to it, the numbers that it may answer, and what it leaves in the runs lent to it.
 --
 -- Main statements: number-listed, lent-kept, beyond-kept, parse-area-left.
-use Rattle.std.specs.Prelude.{◌≡◌, Bool, ◌⊎◌, ℕ, ◌+◌, ◌*◌, ◌≤◌, ◌<◌, ltb, length, get_or}
+use Rattle.std.specs.Prelude.{◌≡◌, Bool, ◌⊎◌, ℕ, ◌+◌, ◌*◌, ◌≤◌, ◌<◌, ltb, length, get_or, Ok, Err}
 use Rattle.std.proofs.Math.Path.{refl, ap}
 use Rattle.std.proofs.Common.{sym, subst, ◌∙◌, true≢false, inl, inr, arith}
 use Rattle.std.proofs.Math.Bool.{true, false}
@@ -11,11 +11,8 @@ use Rattle.std.proofs.Math.ListN.{drop}
 use Rattle.laws.specs.Parts.{drop_past}
 use Rattle.refusals.specs.declared.Refusal.{Refusal}
 use Rattle.refusals.specs.declared.Refusal.TheVariants.{NoRoom, BadState}
-use Rattle.refusals.specs.declared.Answer.{Answer}
-use Rattle.refusals.specs.declared.Answer.TheVariants.{Done, Refused}
-use Rattle.refusals.specs.declared.RunAnswer.{RunAnswer}
-use Rattle.refusals.specs.declared.ReportAnswer.{ReportAnswer}
-use Rattle.refusals.specs.Refusals.{number_of, answer_number, set_number, run_number, report_number}
+use Rattle.refusals.specs.Answers.{Answer, RunAnswer, ReportAnswer}
+use Rattle.refusals.specs.Refusals.{number_of, answer_number}
 use Rattle.language.specs.Words.{count_t, count_n, grammar_of}
 use Rattle.language.specs.Stages.{Stage, checked, stages_of, Given, passes_all, fails, passes}
 use Rattle.language.proofs.Stages.{none_left}
@@ -55,7 +52,7 @@ use Rattle.report.specs.ReportCall.{report_outcome, report_answer, report_out}
 use Rattle.matrix.specs.EndMarkOfShape.{own-shape}
 use Rattle.moving.specs.OnWords.{step-broken, step-in-shape, run-broken, run-in-shape, join-broken, join-in-shape}
 use Rattle.demands.specs.PublicCalls.{PublicCall, number-of, value-of, stuck-refusal, check-symbols, check-words, body-of, load, left-set, right-set, grammar-in-shape}
-use Rattle.demands.specs.PublicCalls.{in-shape, start, step, run, join, read-through, report, parse, entry-tokens}
+use Rattle.demands.specs.PublicCalls.{in-shape, start, step, run, join, read-through, report, parse, entry-range, entry-tokens}
 use Rattle.demands.specs.PublicCalls.{number_for, numbers_for, words_of, Written, written}
 use Rattle.demands.specs.GivenDemand.{StepGiven, step_15, step_12, step_13, step_0, RunGiven, run_15, run_12, run_13, run_0}
 use Rattle.demands.specs.GivenDemand.{JoinGiven, join_15, join_12, join_14, join_0, ReportGiven, report_15, report_16, report_stuck, report_11, report_0}
@@ -92,7 +89,7 @@ staged (stage ∷ stages) (and_stage {n = n} {numbers = numbers} is rest) input 
     later (Memᴰ.tail m) = on (on m)
 
     go : (found : Option ℕ) → Memᴰ (answer_number (checked stages input)) (0 ∷ numbers)
-        → Memᴰ (answer_number (elim found [ none ↦ checked stages input | some v ↦ Refused (stage.refusal v) ])) (0 ∷ n ∷ numbers)
+        → Memᴰ (answer_number (elim found [ none ↦ checked stages input | some v ↦ Err (stage.refusal v) ])) (0 ∷ n ∷ numbers)
     go none m = later m
     go (some v) m = on (Memᴰ.head (is v))
 
@@ -119,15 +116,15 @@ set-listed words k =
     (and_stage (λ v. refl) no_stage)))))) (lent_to_set words k)
 
 -- a set's number is that of its checks
-set-number : (a : Answer) (g : Grammar) (k : ℕ) → set_number (set_or_refusal a g k) ≡ answer_number a
-set-number Done g k = refl
-set-number (Refused refusal) g k = refl
+set-number : (a : Answer) (g : Grammar) (k : ℕ) → answer_number (set_or_refusal a g k) ≡ answer_number a
+set-number (Ok _) g k = refl
+set-number (Err refusal) g k = refl
 
-left-listed : (words : List ℕ) (k : ℕ) → Memᴰ (set_number (left_set_answer words k)) (0 ∷ numbers_for (left-set words k))
+left-listed : (words : List ℕ) (k : ℕ) → Memᴰ (answer_number (left_set_answer words k)) (0 ∷ numbers_for (left-set words k))
 unfolding left_set_answer
 left-listed words k = rw (set-number (set_checked words k) (grammar_of words) k) (set-listed words k)
 
-right-listed : (words : List ℕ) (k : ℕ) → Memᴰ (set_number (right_set_answer words k)) (0 ∷ numbers_for (right-set words k))
+right-listed : (words : List ℕ) (k : ℕ) → Memᴰ (answer_number (right_set_answer words k)) (0 ∷ numbers_for (right-set words k))
 unfolding right_set_answer
 right-listed words k = rw (set-number (set_checked words k) (mirrored (grammar_of words)) k) (set-listed words k)
 
@@ -162,7 +159,7 @@ step-listed (step_13 e h) = on (on (on here))
 step-listed (step_0 e m) = here
 
 run-listed : {words matrix area : List ℕ} {c budget : ℕ} {answer : RunAnswer} → RunGiven words matrix area c budget answer
-    → Memᴰ (run_number answer) (0 ∷ 15 ∷ 12 ∷ 13 ∷ [])
+    → Memᴰ (answer_number answer) (0 ∷ 15 ∷ 12 ∷ 13 ∷ [])
 run-listed (run_15 e) = on here
 run-listed (run_12 e h) = on (on here)
 run-listed (run_13 e h) = on (on (on here))
@@ -183,7 +180,7 @@ stuck-listed not_axiom place = on (on here)
 stuck-listed side_by_side place = on (on (on here))
 
 report-listed : {words matrix area : List ℕ} {room : ℕ} {answer : ReportAnswer} → ReportGiven words matrix area room answer
-    → Memᴰ (report_number answer) (0 ∷ 15 ∷ 16 ∷ 17 ∷ 18 ∷ 19 ∷ 20 ∷ 11 ∷ [])
+    → Memᴰ (answer_number answer) (0 ∷ 15 ∷ 16 ∷ 17 ∷ 18 ∷ 19 ∷ 20 ∷ 11 ∷ [])
 report-listed (report_15 e) = on here
 report-listed (report_16 e h) = on (on here)
 report-listed (report_stuck e why place h) = on (on (on (stuck-listed why place)))
@@ -193,15 +190,15 @@ report-listed (report_0 e entries moves h l) = here
 -- what the one-call parse begins with: 1 to 9, 11 for its work area, or neither
 data BegunView (n room : ℕ) : Answer → Type 0 where
   refused_low : {refusal : Refusal} (k : ℕ) → number_of refusal ≡ k → 1 ≤ k → k ≤ 9 → Memᴰ k (1 ∷ 2 ∷ 3 ∷ 4 ∷ 5 ∷ 6 ∷ 7 ∷ 8 ∷ 9 ∷ [])
-      → BegunView n room (Refused refusal)
-  area_short : {v : ℕ} → room < need n 1 → BegunView n room (Refused (NoRoom v))
-  begun : need n 1 ≤ room → BegunView n room Done
+      → BegunView n room (Err refusal)
+  area_short : {v : ℕ} → room < need n 1 → BegunView n room (Err (NoRoom v))
+  begun : need n 1 ≤ room → BegunView n room (Ok tt)
 
 module _ (words tokens : List ℕ) (room : ℕ) where
   abbrev own_matrix : List ℕ
   own_matrix = matrix_of (grammar_of words)
 
-  loaded : {refusal : Refusal} → Given (lent_to_load words 4096) load_conditions (Refused refusal) → BegunView (length tokens) room (Refused refusal)
+  loaded : {refusal : Refusal} → Given (lent_to_load words 4096) load_conditions (Err refusal) → BegunView (length tokens) room (Err refusal)
   loaded (fails l) = refused_low 1 refl (omega arith) (omega arith) here
   loaded (passes a (fails l)) = refused_low 2 refl (omega arith) (omega arith) (on here)
   loaded (passes a (passes b (fails l))) = refused_low 3 refl (omega arith) (omega arith) (on (on here))
@@ -214,8 +211,8 @@ module _ (words tokens : List ℕ) (room : ℕ) where
       short (too_short r q) = omega arith
   loaded (passes a (passes b (passes c (passes d (passes e (passes f (passes g h))))))) = none_left (lent_to_load words 4096) h
 
-  started : grammar_in_shape words own_matrix ≡ true → {refusal : Refusal} → Given (lent_to_start words own_matrix tokens [] room) start_conditions (Refused refusal)
-      → BegunView (length tokens) room (Refused refusal)
+  started : grammar_in_shape words own_matrix ≡ true → {refusal : Refusal} → Given (lent_to_start words own_matrix tokens [] room) start_conditions (Err refusal)
+      → BegunView (length tokens) room (Err refusal)
   started shape (fails l) = absurd (fits l.holds)
     where
       fits : {v : ℕ} → GrammarBroken (lent_to_start words own_matrix tokens [] room) v → ⊥
@@ -233,19 +230,19 @@ module _ (words tokens : List ℕ) (room : ℕ) where
   begun-view : BegunView (length tokens) room (parse_begun words tokens room)
   begun-view = by-load (load_answer words 4096) refl
     where
-      by_start : load_answer words 4096 ≡ Done → (a : Answer) → start_answer words own_matrix tokens [] room ≡ a
+      by_start : load_answer words 4096 ≡ Ok tt → (a : Answer) → start_answer words own_matrix tokens [] room ≡ a
           → BegunView (length tokens) room (parse_begun words tokens room)
-      by_start e (Refused refusal) f =
+      by_start e (Err refusal) f =
           rw (refused-by-start words tokens room e f)
-          (started (own-shape ((accepted-exactly words 4096).0 e).0) ((start-given words own_matrix tokens [] room (Refused refusal)).0 f))
-      by_start e Done f =
+          (started (own-shape ((accepted-exactly words 4096).0 e).0) ((start-given words own_matrix tokens [] room (Err refusal)).0 f))
+      by_start e (Ok _) f =
           let can = (starts-exactly words own_matrix tokens [] room).0 f in
           let h : room < need (length tokens) 1 → ⊥ = λ l. can.room_enough (need (length tokens) 1) (no_room l refl) in
           rw (parse-begins words tokens room (record { loads = e; starts = f })) (begun (omega arith))
 
       by-load : (a : Answer) → load_answer words 4096 ≡ a → BegunView (length tokens) room (parse_begun words tokens room)
-      by-load (Refused refusal) e = rw (refused-by-load words tokens room e) (loaded ((load_given words 4096 (Refused refusal)).0 e))
-      by-load Done e = by_start e (start_answer words own_matrix tokens [] room) refl
+      by-load (Err refusal) e = rw (refused-by-load words tokens room e) (loaded ((load_given words 4096 (Err refusal)).0 e))
+      by-load (Ok _) e = by_start e (start_answer words own_matrix tokens [] room) refl
 
 -- in a list that goes on
 mem-append : {n : ℕ} {l : List ℕ} → Memᴰ n l → (m : List ℕ) → Memᴰ n (l ++ m)
@@ -255,12 +252,12 @@ mem-append (Memᴰ.tail h) m = Memᴰ.tail (mem-append h m)
 abbrev parse_numbers : List ℕ
 parse_numbers = 0 ∷ 1 ∷ 2 ∷ 3 ∷ 4 ∷ 5 ∷ 6 ∷ 7 ∷ 8 ∷ 9 ∷ 11 ∷ 17 ∷ 18 ∷ 19 ∷ 20 ∷ 11 ∷ []
 
-begun-listed : {n room : ℕ} {refusal : Refusal} → BegunView n room (Refused refusal) → Memᴰ (number_of refusal) parse_numbers
+begun-listed : {n room : ℕ} {refusal : Refusal} → BegunView n room (Err refusal) → Memᴰ (number_of refusal) parse_numbers
 begun-listed (refused_low k e low high m) = rw e (on (mem-append m (11 ∷ 17 ∷ 18 ∷ 19 ∷ 20 ∷ 11 ∷ [])))
 begun-listed (area_short h) = on (on (on (on (on (on (on (on (on (on here)))))))))
 
 parse-listed : {words tokens : List ℕ} {room out_room : ℕ} {answer : ReportAnswer} → ParseGiven words tokens room out_room answer
-    → Memᴰ (report_number answer) parse_numbers
+    → Memᴰ (answer_number answer) parse_numbers
 parse-listed {words} {tokens} {room} (parse_words e) = begun-listed (rw (refused-by-load words tokens room e) at (begun-view words tokens room))
 parse-listed {words} {tokens} {room} (parse_row e f) = begun-listed (rw (refused-by-start words tokens room e f) at (begun-view words tokens room))
 parse-listed (parse_stuck b reader why place h) = on (on (on (on (on (on (on (on (on (on (on (stuck-listed why place)))))))))))
@@ -289,31 +286,32 @@ number-listed (read-through words matrix tokens area) =
 number-listed (report words matrix area out) = report-listed ((given-for (report words matrix area out) (report_answer words matrix area (length out))).0 refl)
 number-listed (parse words tokens area out) =
     parse-listed ((given-for (parse words tokens area out) (parse_answer words tokens (length area) (length out))).0 refl)
+number-listed (entry-range entries e count) = here
 number-listed (entry-tokens entries e tokens place) = here
 
 -- ---- what a refusal leaves
 
 load_kept : (a : Answer) (words bytes : List ℕ) → (answer_number a ≡ 0 → ⊥) → loaded_bytes a words bytes ≡ bytes
-load_kept Done words bytes h = absurd (h refl)
-load_kept (Refused refusal) words bytes h = refl
+load_kept (Ok _) words bytes h = absurd (h refl)
+load_kept (Err refusal) words bytes h = refl
 
 start-kept : (a : Answer) (tokens cuts area : List ℕ) → (answer_number a ≡ 0 → ⊥) → started_area a tokens cuts area ≡ area
-start-kept Done tokens cuts area h = absurd (h refl)
-start-kept (Refused refusal) tokens cuts area h = refl
+start-kept (Ok _) tokens cuts area h = absurd (h refl)
+start-kept (Err refusal) tokens cuts area h = refl
 
 read_kept : (a : Answer) (words matrix tokens area : List ℕ) → (answer_number a ≡ 0 → ⊥) → read_from a words matrix tokens area ≡ area
-read_kept Done words matrix tokens area h = absurd (h refl)
-read_kept (Refused refusal) words matrix tokens area h = refl
+read_kept (Ok _) words matrix tokens area h = absurd (h refl)
+read_kept (Err refusal) words matrix tokens area h = refl
 
 called-kept : (x : Called Span) (area : List ℕ) → (answer_number (called_answer x) ≡ 0 → ⊥) → called_area x area ≡ area
 called-kept (refused refusal) area h = refl
 called-kept (became s) area h = absurd (h refl)
 
-ran-kept : (x : Ran Span) (area : List ℕ) → (run_number (ran_answer x) ≡ 0 → ⊥) → ran_area x area ≡ area
+ran-kept : (x : Ran Span) (area : List ℕ) → (answer_number (ran_answer x) ≡ 0 → ⊥) → ran_area x area ≡ area
 ran-kept (refused_run refusal) area h = refl
 ran-kept (ran made s) area h = absurd (h refl)
 
-outcome-kept : (o : Outcome) (out : List ℕ) → (report_number (outcome_answer o (length out)) ≡ 0 → ⊥) → outcome_out o out ≡ out
+outcome-kept : (o : Outcome) (out : List ℕ) → (answer_number (outcome_answer o (length out)) ≡ 0 → ⊥) → outcome_out o out ≡ out
 outcome-kept (refused_row refusal) out h = refl
 outcome-kept (reported entries moves) out h = go (ltb (length out) (3 * length entries)) refl
   where
@@ -321,9 +319,9 @@ outcome-kept (reported entries moves) out h = go (ltb (length out) (3 * length e
     go true e = rw (e, outcome_out)
     go false e = absurd (h (rw (e, outcome_answer)))
 
-parsed-kept : (a : Answer) (o : Outcome) (out : List ℕ) → (report_number (parsed_answer a o (length out)) ≡ 0 → ⊥) → parsed_out a o out ≡ out
-parsed-kept Done o out h = outcome-kept o out h
-parsed-kept (Refused refusal) o out h = refl
+parsed-kept : (a : Answer) (o : Outcome) (out : List ℕ) → (answer_number (parsed_answer a o (length out)) ≡ 0 → ⊥) → parsed_out a o out ≡ out
+parsed-kept (Ok _) o out h = outcome-kept o out h
+parsed-kept (Err refusal) o out h = refl
 
 -- of no run there is nothing to say, and of one run what is said of it
 no_run : {A : Type 0} {w : Written} → Memᴰ w [] → A
@@ -358,20 +356,21 @@ lent-kept (read-through words matrix tokens area) h m = one-run Same (read_kept 
 lent-kept (report words matrix area out) h m = one-run Same (outcome-kept (report_outcome words matrix area) out h) m
 lent-kept (parse words tokens area out) h m =
     one-run Same (parsed-kept (parse_begun words tokens (length area)) (parse_outcome words tokens) out h) m
+lent-kept (entry-range entries e count) h m = no_run m
 lent-kept (entry-tokens entries e tokens place) h m = no_run m
 
 -- ---- what stands beyond
 
 load-beyond : (a : Answer) (words bytes : List ℕ) → drop 4096 (loaded_bytes a words bytes) ≡ drop 4096 bytes
-load-beyond Done words bytes =
+load-beyond (Ok _) words bytes =
     let m : List ℕ = matrix_of (grammar_of words) in
     drop_past (m ++ drop 4096 bytes) 0 4096 m (drop 4096 bytes) (omega (arith, matrix-length (grammar_of words))) refl
-load-beyond (Refused refusal) words bytes = refl
+load-beyond (Err refusal) words bytes = refl
 
 start-beyond : (words matrix tokens cuts area : List ℕ) (a : Answer) → start_answer words matrix tokens cuts (length area) ≡ a
     → drop (need (length tokens) (length cuts + 1)) (started_area a tokens cuts area) ≡ drop (need (length tokens) (length cuts + 1)) area
-start-beyond words matrix tokens cuts area (Refused refusal) e = refl
-start-beyond words matrix tokens cuts area Done e =
+start-beyond words matrix tokens cuts area (Err refusal) e = refl
+start-beyond words matrix tokens cuts area (Ok _) e =
     let k : ℕ = need (length tokens) (length cuts + 1) in
     let w : List ℕ = encode (length tokens) (States.start tokens cuts) in
     let good = cuts-good ((starts-exactly words matrix tokens cuts (length area)).0 e) in
@@ -444,15 +443,15 @@ module _ (words matrix area : List ℕ) (low : get_or area 2 0 < 65536) where
           ∙ ran-beyond e c budget (States.run (table_of words matrix) c budget (decode area)) refl
 
 -- a row read through: the words of its start, and then those of its run
-started-as : (words matrix tokens area : List ℕ) → read_answer words matrix tokens (length area) ≡ Done
+started-as : (words matrix tokens area : List ℕ) → read_answer words matrix tokens (length area) ≡ Ok tt
     → start_area words matrix tokens [] area ≡ encode (length tokens) (States.start tokens []) ++ drop (need (length tokens) 1) area
 unfolding start_area
 started-as words matrix tokens area e = ap (λ a. started_area a tokens [] area) (sym (read-begins words matrix tokens area) ∙ e)
 
 read-beyond : (words matrix tokens area : List ℕ) (a : Answer) → read_answer words matrix tokens (length area) ≡ a
     → drop (need (length tokens) 1) (read_from a words matrix tokens area) ≡ drop (need (length tokens) 1) area
-read-beyond words matrix tokens area (Refused refusal) e = refl
-read-beyond words matrix tokens area Done e =
+read-beyond words matrix tokens area (Err refusal) e = refl
+read-beyond words matrix tokens area (Ok _) e =
     let n : ℕ = length tokens in
     let s : State Span = States.start tokens [] in
     let rest : List ℕ = drop (need n 1) area in
@@ -463,7 +462,7 @@ read-beyond words matrix tokens area Done e =
     let ran : drop (need n 1) (run_area words matrix (encode n s ++ rest) 0 (2 * n + 2)) ≡ drop (need n 1) (encode n s ++ rest) =
     subst (λ k. drop k (run_area words matrix (encode n s ++ rest) 0 (2 * n + 2)) ≡ drop k (encode n s ++ rest)) count
     (run-beyond words matrix (encode n s ++ rest) low 0 (2 * n + 2)) in
-    ap (λ l. drop (need n 1) (run_area words matrix l 0 (2 * n + 2))) is ∙ ran ∙ start-beyond words matrix tokens [] area Done f
+    ap (λ l. drop (need n 1) (run_area words matrix l 0 (2 * n + 2))) is ∙ ran ∙ start-beyond words matrix tokens [] area (Ok tt) f
 
 outcome-beyond : (o : Outcome) (out : List ℕ)
     → drop (words_of (outcome_answer o (length out))) (outcome_out o out) ≡ drop (words_of (outcome_answer o (length out))) out
@@ -481,8 +480,8 @@ outcome-beyond (reported l m) out = go (ltb (length out) (3 * length l)) refl
 
 parsed-beyond : (a : Answer) (o : Outcome) (out : List ℕ)
     → drop (words_of (parsed_answer a o (length out))) (parsed_out a o out) ≡ drop (words_of (parsed_answer a o (length out))) out
-parsed-beyond Done o out = outcome-beyond o out
-parsed-beyond (Refused refusal) o out = refl
+parsed-beyond (Ok _) o out = outcome-beyond o out
+parsed-beyond (Err refusal) o out = refl
 
 -- whose words have 16 bits, as all lent words have; of an area this is asked of the low half of its count
 abbrev Beyond : Written → Type 0
@@ -513,12 +512,13 @@ beyond-kept (read-through words matrix tokens area) m =
 beyond-kept (report words matrix area out) m = one-run Beyond (λ low. outcome-beyond (report_outcome words matrix area) out) m
 beyond-kept (parse words tokens area out) m =
     one-run Beyond (λ low. parsed-beyond (parse_begun words tokens (length area)) (parse_outcome words tokens) out) m
+beyond-kept (entry-range entries e count) m = no_run m
 beyond-kept (entry-tokens entries e tokens place) m = no_run m
 
 -- ---- the one-call parse's work area
 
 module _ (words tokens area out : List ℕ) where
-  area-used : parse_begun words tokens (length area) ≡ Done → parse_area words tokens area ≡ zeros (need (length tokens) 1) ++ drop (need (length tokens) 1) area
+  area-used : parse_begun words tokens (length area) ≡ Ok tt → parse_area words tokens area ≡ zeros (need (length tokens) 1) ++ drop (need (length tokens) 1) area
   unfolding parse_area
   area-used e = ap (λ a. parsed_area a (length tokens) area) e
 
@@ -531,8 +531,8 @@ module _ (words tokens area out : List ℕ) where
   used : {a : Answer} → parse_begun words tokens (length area) ≡ a → BegunView (length tokens) (length area) a
       → (number_for (parse words tokens area out) ≡ 0) ⊎ (9 < number_for (parse words tokens area out)) → need (length tokens) 1 ≤ length area
       → parse_area words tokens area ≡ zeros (need (length tokens) 1) ++ drop (need (length tokens) 1) area
-  used e (refused_low k q low high m) (inl z) h = let n = ap report_number (parse-refused words tokens (length area) (length out) e) in absurd (omega arith)
-  used e (refused_low k q low high m) (inr z) h = let n = ap report_number (parse-refused words tokens (length area) (length out) e) in absurd (omega arith)
+  used e (refused_low k q low high m) (inl z) h = let n = ap answer_number (parse-refused words tokens (length area) (length out) e) in absurd (omega arith)
+  used e (refused_low k q low high m) (inr z) h = let n = ap answer_number (parse-refused words tokens (length area) (length out) e) in absurd (omega arith)
   used e (area_short l) z h = absurd (omega arith)
   used e (begun l) z h = area-used e
 

@@ -7,7 +7,7 @@ use Rattle.std.proofs.Common.{sym, ap, subst, ◌∙◌, append_assoc, append-ni
 use Rattle.std.proofs.Math.Option.{Option, some}
 use Rattle.laws.specs.Tests.{eqb-true, eqb-false}
 use Rattle.refusals.specs.declared.Refusal.TheVariants.{Unfinished}
-use Rattle.refusals.specs.Refusals.{report_number}
+use Rattle.refusals.specs.Refusals.{answer_number}
 use Rattle.language.specs.Trees.{Span}
 use Rattle.machine.specs.Chunks.{Chunk}
 use Rattle.machine.specs.States.{State, step, join, live, Outcome, refused_row}
@@ -38,7 +38,7 @@ first_some (first_live h) = omega arith
 number-below : {chunks : List (Option (Chunk Span))} {c : ℕ} → Live chunks c → c < length chunks
 number-below {chunks} {c} l = omega (arith, l.number_is, ap length l.chunks_are, length-append l.before (some l.chunk ∷ l.after))
 
-unfinished : {o : Outcome} {room : ℕ} → OutcomeNumber o room → report_number (outcome_answer o room) ≡ 16 → o ≡ refused_row Unfinished
+unfinished : {o : Outcome} {room : ℕ} → OutcomeNumber o room → answer_number (outcome_answer o room) ≡ 16 → o ≡ refused_row Unfinished
 unfinished (number_16 q e) h = q
 unfinished (number_stuck a b) h = absurd (omega arith)
 unfinished (number_11 e) h = absurd (omega arith)
@@ -74,13 +74,13 @@ module _ {words bytes tokens cuts area₀ : List ℕ} (begun : Begun words bytes
       some_join c (omega (arith, (standing-safe begun reached).few_chunks)) (ap called_answer (join-there c ∙ q))
 
   -- (b) while the report answers 16, some step or join answers 0
-  pub some-move : (room : ℕ) → report_number (report_answer words matrix area room) ≡ 16 → SomeMove words matrix area
+  pub some-move : (room : ℕ) → answer_number (report_answer words matrix area room) ≡ 16 → SomeMove words matrix area
   some-move room e =
       let q = unfinished (outcome-number reached.state room) (sym (report-number begun own matrix of_load room) ∙ e) in
       turned_move (progress (own_table words) reached.state (first_some (standing-safe begun reached).first) q).1
 
   -- where it does not, no call makes a move
-  pub finished-stays : (room : ℕ) → (report_number (report_answer words matrix area room) ≡ 16 → ⊥) → (call : Call) → OfLoad words bytes (matrix_for call)
+  pub finished-stays : (room : ℕ) → (answer_number (report_answer words matrix area room) ≡ 16 → ⊥) → (call : Call) → OfLoad words bytes (matrix_for call)
       → call_made words area call ≡ 0
   finished-stays room h call own-call = go (standing-view begun reached call own-call)
     where

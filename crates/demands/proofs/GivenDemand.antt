@@ -1,7 +1,7 @@
 -- What is proved of specs' GivenDemand. *Given exactly*, of the public calls: each answer is given exactly when the table's sentence for it holds, every check before it passed.
 --
 -- Main statement: given-for.
-use Rattle.std.specs.Prelude.{◌≡◌, Bool, ◌↔◌, ℕ, ◌*◌, ◌≤◌, ◌<◌}
+use Rattle.std.specs.Prelude.{◌≡◌, Bool, ◌↔◌, ℕ, ◌*◌, ◌≤◌, ◌<◌, Ok, Err}
 use Rattle.std.proofs.Math.Path.{refl, ap}
 use Rattle.std.proofs.Common.{◌∙◌}
 use Rattle.std.proofs.Math.Bool.{true, false}
@@ -11,12 +11,7 @@ use Rattle.std.proofs.Math.ListN.{length}
 use Rattle.laws.specs.Tests.{ltb-true, ltb-false, lt-ltb, le-ltb}
 use Rattle.refusals.specs.declared.Refusal.{Refusal}
 use Rattle.refusals.specs.declared.Refusal.TheVariants.{NoRoom, Unfinished}
-use Rattle.refusals.specs.declared.Answer.{Answer}
-use Rattle.refusals.specs.declared.Answer.TheVariants.{Done, Refused}
-use Rattle.refusals.specs.declared.SetAnswer.{SetAnswer}
-use Rattle.refusals.specs.declared.RunAnswer.{RunAnswer}
-use Rattle.refusals.specs.declared.ReportAnswer.{ReportAnswer}
-use Rattle.refusals.specs.declared.ReportAnswer.TheVariants as reports
+use Rattle.refusals.specs.Answers.{Answer, SetAnswer, RunAnswer, ReportAnswer}
 use Rattle.language.specs.Grammar.{Grammar, mirrored}
 use Rattle.language.specs.Words.{grammar_of}
 use Rattle.language.specs.Stages.{ready, finding, Given}
@@ -61,7 +56,7 @@ use Rattle.parse.specs.ParseCall.{then_start, parsed_answer, parse_outcome, pars
 use Rattle.report.specs.ReportCall.{report_outcome, report_answer, report-broken, report-in-shape}
 use Rattle.moving.specs.OnWords.{step-broken, step-in-shape, run-broken, run-in-shape, join-broken, join-in-shape}
 use Rattle.demands.specs.PublicCalls.{PublicCall, number-of, value-of, stuck-refusal, check-symbols, check-words, body-of, load, left-set, right-set}
-use Rattle.demands.specs.PublicCalls.{grammar-in-shape, in-shape, start, step, run, join, read-through, report, parse, entry-tokens}
+use Rattle.demands.specs.PublicCalls.{grammar-in-shape, in-shape, start, step, run, join, read-through, report, parse, entry-range, entry-tokens}
 use Rattle.demands.proofs.SameReport.{right_tokens}
 use Rattle.demands.specs.ParseDemand.{UncutReader, parse-reads}
 use Rattle.demands.proofs.ParseDemand.{uncut-reader, uncut-finished}
@@ -102,12 +97,12 @@ module _ (words : List ℕ) (k : ℕ) (g : Grammar) where
   set_found = go (set_checked words k) refl
     where
       go : (a : Answer) → set_checked words k ≡ a → SetGiven words k g (set_or_refusal a g k)
-      go Done e = set_0 ((checked-given words k Done).0 e)
-      go (Refused refusal) e = set_refused ((checked-given words k (Refused refusal)).0 e)
+      go (Ok _) e = set_0 ((checked-given words k (Ok tt)).0 e)
+      go (Err refusal) e = set_refused ((checked-given words k (Err refusal)).0 e)
 
   set_so : {answer : SetAnswer} → SetGiven words k g answer → set_or_refusal (set_checked words k) g k ≡ answer
-  set_so (set_0 h) = ap (λ a. set_or_refusal a g k) ((checked-given words k Done).1 h)
-  set_so (set_refused {refusal = refusal} h) = ap (λ a. set_or_refusal a g k) ((checked-given words k (Refused refusal)).1 h)
+  set_so (set_0 h) = ap (λ a. set_or_refusal a g k) ((checked-given words k (Ok tt)).1 h)
+  set_so (set_refused {refusal = refusal} h) = ap (λ a. set_or_refusal a g k) ((checked-given words k (Err refusal)).1 h)
 
   set_given : (answer : SetAnswer) → (set_or_refusal (set_checked words k) g k ≡ answer) ↔ SetGiven words k g answer
   set_given answer = (λ e. rw e at set_found, set_so)
@@ -212,11 +207,11 @@ module _ (words matrix area : List ℕ) where
 
 -- a report with room for it, and without
 with-room : (entries : List (Reduction Span)) (moves room : ℕ) → 3 * length entries ≤ room
-    → outcome_answer (reported entries moves) room ≡ reports.Report (length entries) moves
+    → outcome_answer (reported entries moves) room ≡ Ok (record { entries = length entries; moves = moves })
 with-room entries moves room h = rw (le-ltb room (3 * length entries) h, outcome_answer)
 
 without-room : (entries : List (Reduction Span)) (moves room : ℕ) → room < 3 * length entries
-    → outcome_answer (reported entries moves) room ≡ reports.Refused (NoRoom (3 * length entries))
+    → outcome_answer (reported entries moves) room ≡ Err (NoRoom (3 * length entries))
 without-room entries moves room h = rw (lt-ltb room (3 * length entries) h, outcome_answer)
 
 module _ (words matrix area : List ℕ) (room : ℕ) where
@@ -254,7 +249,7 @@ module _ (words matrix area : List ℕ) (room : ℕ) where
 -- ---- the one-call parse
 
 module _ (words tokens : List ℕ) (room : ℕ) where
-  pub parse-begins : Begins words tokens room → parse_begun words tokens room ≡ Done
+  pub parse-begins : Begins words tokens room → parse_begun words tokens room ≡ Ok tt
   unfolding parse_begun
   parse-begins b = ap (λ a. then_start a words tokens room) b.loads ∙ b.starts
 
@@ -278,7 +273,7 @@ module _ (words tokens : List ℕ) (room : ℕ) where
     unfolding parse_answer
     parse-ends b = ap (λ a. parsed_answer a (parse_outcome words tokens) out_room) (parse-begins b)
 
-    pub parse-refused : {refusal : Refusal} → parse_begun words tokens room ≡ Refused refusal → parse_answer words tokens room out_room ≡ reports.Refused refusal
+    pub parse-refused : {refusal : Refusal} → parse_begun words tokens room ≡ Err refusal → parse_answer words tokens room out_room ≡ Err refusal
     unfolding parse_answer
     parse-refused e = ap (λ a. parsed_answer a (parse_outcome words tokens) out_room) e
 
@@ -299,17 +294,17 @@ module _ (words tokens : List ℕ) (room : ℕ) where
         of b reader never (stuck_so why place q h) = rw q (parse_stuck b reader why place h)
         of b reader never (reported_so entries moves q h) = rw q (written b reader entries moves h (ltb out_room (3 * length entries)) refl)
 
-        by_start : load_answer words 4096 ≡ Done → (a : Answer) → start_answer words (matrix_of (grammar_of words)) tokens [] room ≡ a
+        by_start : load_answer words 4096 ≡ Ok tt → (a : Answer) → start_answer words (matrix_of (grammar_of words)) tokens [] room ≡ a
             → ParseGiven words tokens room out_room (parse_answer words tokens room out_room)
-        by_start e (Refused refusal) f = rw (parse-refused (refused-by-start words tokens room e f)) (parse_row e f)
-        by_start e Done f =
+        by_start e (Err refusal) f = rw (parse-refused (refused-by-start words tokens room e f)) (parse_row e f)
+        by_start e (Ok _) f =
             let b : Begins words tokens room = record { loads = e; starts = f } in
             let reader = parse-reader b in
             rw (parse-ends b, parse-last b reader) (of b reader (parse-rests b reader) (outcome-view reader.last))
 
         by-load : (a : Answer) → load_answer words 4096 ≡ a → ParseGiven words tokens room out_room (parse_answer words tokens room out_room)
-        by-load (Refused refusal) e = rw (parse-refused (refused-by-load words tokens room e)) (parse_words e)
-        by-load Done e = by_start e (start_answer words (matrix_of (grammar_of words)) tokens [] room) refl
+        by-load (Err refusal) e = rw (parse-refused (refused-by-load words tokens room e)) (parse_words e)
+        by-load (Ok _) e = by_start e (start_answer words (matrix_of (grammar_of words)) tokens [] room) refl
 
     parse-so : {answer : ReportAnswer} → ParseGiven words tokens room out_room answer → parse_answer words tokens room out_room ≡ answer
     parse-so (parse_words e) = parse-refused (refused-by-load words tokens room e)
@@ -347,4 +342,5 @@ given-for (join words matrix area c) = join-given words matrix area c
 given-for (read-through words matrix tokens area) = read-given words matrix tokens (length area)
 given-for (report words matrix area out) = report-given words matrix area (length out)
 given-for (parse words tokens area out) = parse-given words tokens (length area) (length out)
+given-for (entry-range entries e count) = tt
 given-for (entry-tokens entries e tokens place) = tt

@@ -5,9 +5,7 @@
 -- Main statements: step-demand, run-demand, join-demand; of a lent area: lent-state.
 use Rattle.std.proofs.Math.Path.{◌≡◌, refl, sym, ap}
 use Rattle.std.proofs.Common.{◌∙◌, arith}
-use Rattle.std.specs.Prelude.{true, ◌↔◌, List, ◌++◌, ℕ, ◌<◌, get_or, drop}
-use Rattle.refusals.specs.declared.Answer.TheVariants.{Done, Refused}
-use Rattle.refusals.specs.declared.RunAnswer.TheVariants as runs
+use Rattle.std.specs.Prelude.{true, ◌↔◌, List, ◌++◌, ℕ, ◌<◌, get_or, drop, Ok, Err}
 use Rattle.language.specs.Trees.{Span}
 use Rattle.machine.specs.States.{State, Called, refused, became, Ran, refused_run, ran, step, run, join}
 use Rattle.machine.specs.TableOf.{table_of}
@@ -35,12 +33,12 @@ module _ (words matrix : List ℕ) (grammar : grammar_in_shape words matrix ≡ 
 
   -- a call that is the machine's call x: it is accepted and leaves the words of s' exactly when x is s'
   called-demand : {call : Called Span} (x : Called Span) (s' : State Span) → call ≡ x → ((s'' : State Span) → x ≡ became s'' → Turned (table_of words matrix) s s'')
-      → ((called_answer call ≡ Done) × Safe words n s' × (called_area call area ≡ encode n s' ++ rest)) ↔ (x ≡ became s')
+      → ((called_answer call ≡ Ok tt) × Safe words n s' × (called_area call area ≡ encode n s' ++ rest)) ↔ (x ≡ became s')
   called-demand {call} x s' is turns = ((λ h. to x refl h.0 h.1 h.2), from)
     where
-      to : (y : Called Span) → x ≡ y → called_answer call ≡ Done → Safe words n s' → called_area call area ≡ encode n s' ++ rest → x ≡ became s'
+      to : (y : Called Span) → x ≡ y → called_answer call ≡ Ok tt → Safe words n s' → called_area call area ≡ encode n s' ++ rest → x ≡ became s'
       to (refused why) q done k w =
-          let e : Refused why ≡ Done = sym (ap called_answer (is ∙ q)) ∙ done in
+          let e : Err why ≡ Ok tt = sym (ap called_answer (is ∙ q)) ∙ done in
           let z : ◌≡◌ {A = ℕ} 0 1 = cc in
           absurd (omega arith)
       to (became s'') q done k w =
@@ -48,7 +46,7 @@ module _ (words matrix : List ℕ) (grammar : grammar_in_shape words matrix ≡ 
           let same : s'' ≡ s' = one_state (safe-turned words matrix grammar safe (turns s'' q)) k (sym f ∙ w) in
           q ∙ ap became same
 
-      from : x ≡ became s' → (called_answer call ≡ Done) × Safe words n s' × (called_area call area ≡ encode n s' ++ rest)
+      from : x ≡ became s' → (called_answer call ≡ Ok tt) × Safe words n s' × (called_area call area ≡ encode n s' ++ rest)
       from q = (
         ap called_answer (is ∙ q),
         safe-turned words matrix grammar safe (turns s' q),
@@ -72,14 +70,14 @@ module _ (words matrix : List ℕ) (grammar : grammar_in_shape words matrix ≡ 
   )
     where
       to : (x : Ran Span) → run (table_of words matrix) c budget s ≡ x → run_call words matrix area c budget ≡ run (table_of words matrix) c budget s
-          → run_answer words matrix area c budget ≡ runs.Moves j → Safe words n s' → run_area words matrix area c budget ≡ encode n s' ++ rest
+          → run_answer words matrix area c budget ≡ Ok j → Safe words n s' → run_area words matrix area c budget ≡ encode n s' ++ rest
           → RunNamed (table_of words matrix) c budget s j s'
       to (refused_run why) q is answer k w =
-          let e : runs.Refused why ≡ runs.Moves j = sym (ap ran_answer (is ∙ q)) ∙ answer in
+          let e : Err why ≡ Ok j = sym (ap ran_answer (is ∙ q)) ∙ answer in
           let z : ◌≡◌ {A = ℕ} 0 1 = cc in
           absurd (omega arith)
       to (ran i s'') q is answer k w =
-          let e : runs.Moves i ≡ runs.Moves j = sym (ap ran_answer (is ∙ q)) ∙ answer in
+          let e : Ok i ≡ Ok j = sym (ap ran_answer (is ∙ q)) ∙ answer in
           let i-is : i ≡ j = cc in
           let f : run_area words matrix area c budget ≡ encode n s'' ++ rest = ap (λ x. ran_area x area) (is ∙ q) ∙ leaves words matrix grammar safe rest s'' in
           let same : s'' ≡ s' = one_state (safe-run words matrix grammar c budget safe q) k (sym f ∙ w) in

@@ -4,9 +4,8 @@
 -- Rests on Calls, on language's Loads and Matrix, machine's TableOf, and matrix's EndMarkOfShape.
 --
 -- Main statements: own-bytes, shape_is, table_is; from below, for all here: own_table, own-end-mark, own-laws, own-shape.
-use Rattle.std.specs.Prelude.{◌≡◌, true, List, [], ◌++◌, ℕ, length, take, drop, ltb}
+use Rattle.std.specs.Prelude.{◌≡◌, true, List, [], ◌++◌, ℕ, length, take, drop, ltb, Ok}
 use Rattle.std.proofs.Common.{sym, ap, subst, ◌∙◌, append-nil, take-append-drop, take_at}
-use Rattle.refusals.specs.declared.Answer.TheVariants.{Done}
 use Rattle.language.specs.Grammar.{left_side}
 use Rattle.language.specs.Words.{count_a, grammar_of}
 use Rattle.language.specs.Matching.{matching}
@@ -37,7 +36,7 @@ module _ {words : List ℕ} (accepted : Accepted words) where
     value = λ r spans. span_of spans;
   }
 
-module _ (words bytes : List ℕ) (loads : load_answer words (length bytes) ≡ Done) where
+module _ (words bytes : List ℕ) (loads : load_answer words (length bytes) ≡ Ok tt) where
   pub accepted : Accepted words
   accepted = ((accepted-exactly words (length bytes)).0 loads).0
 

@@ -3,14 +3,13 @@
 -- stuck.
 --
 -- Main statements: parse-accepts-exactly, parse-reports, parse-refuses, one-tree-only; the reader: uncut-reader; uncut-finished.
-use Rattle.std.specs.Prelude.{◌≡◌, refl, ◌↔◌, ◌⊎◌, ℕ, ◌*◌, ◌≤◌, length}
+use Rattle.std.specs.Prelude.{◌≡◌, refl, ◌↔◌, ◌⊎◌, ℕ, ◌*◌, ◌≤◌, length, Err}
 use Rattle.std.proofs.Common.{◌∙◌, inl, inr, arith}
 use Rattle.std.proofs.Math.Path.{ap}
 use mathlib.Core.List.{List}
 use Rattle.refusals.specs.declared.Refusal.{Refusal}
 use Rattle.refusals.specs.declared.Refusal.TheVariants.{Unfinished}
-use Rattle.refusals.specs.declared.ReportAnswer.TheVariants.{Refused}
-use Rattle.refusals.specs.Refusals.{number_of, value_of, report_number}
+use Rattle.refusals.specs.Refusals.{number_of, value_of, answer_number}
 use Rattle.language.specs.Words.{grammar_of}
 use Rattle.language.specs.Loads.{Accepted}
 use Rattle.machine.specs.Moves.{Stuck}
@@ -52,7 +51,7 @@ module _ {words : List ℕ} (accepted : Accepted words) {tokens : List ℕ} (rig
     -- runs long enough
     module _ (room : ℕ) (enough : need (length tokens) 1 ≤ room) (out : List ℕ) (long : 3 * length tokens ≤ length out) where
       refused-with : {refusal : Refusal} → outcome reader.last ≡ refused_row refusal
-          → (parse_answer words tokens room (length out) ≡ Refused refusal) × (parse_out words tokens room out ≡ out)
+          → (parse_answer words tokens room (length out) ≡ Err refusal) × (parse_out words tokens room out ≡ out)
       refused-with e = (
         parse-answers accepted right room enough (length out) ∙ ap (λ x. outcome_answer x (length out)) (parse-reads accepted right reader ∙ e),
         parse-writes accepted right room enough out ∙ ap (λ x. outcome_out x out) (parse-reads accepted right reader ∙ e),
@@ -83,24 +82,24 @@ module _ {words : List ℕ} (accepted : Accepted words) {tokens : List ℕ} (rig
       -- a row that no axiom derives is refused as the reader gets stuck: 17, 18 or 19, never 16 or 20; the report run stays
       pub parse-refuses : (InLanguage (grammar_of words) tokens → ⊥)
           → (refusal : Refusal) × GotStuck tokens reader.last refusal
-          × (parse_answer words tokens room (length out) ≡ Refused refusal) × (parse_out words tokens room out ≡ out)
+          × (parse_answer words tokens room (length out) ≡ Err refusal) × (parse_out words tokens room out ≡ out)
       parse-refuses never =
           let r = (refused-exactly (own-laws accepted) (own-end-mark accepted) (λ r vs. refl) tokens (tokens-no-end accepted right) reader.reading).0 never in
           let w = refused-with r.2 in
           (r.0, got_stuck r.1 r.2, w.0, w.1)
 
       -- accepted exactly when an axiom derives the tokens
-      pub parse-accepts-exactly : (report_number (parse_answer words tokens room (length out)) ≡ 0) ↔ InLanguage (grammar_of words) tokens
+      pub parse-accepts-exactly : (answer_number (parse_answer words tokens room (length out)) ≡ 0) ↔ InLanguage (grammar_of words) tokens
       parse-accepts-exactly = (
         (λ e. to uncut-verdict refl e),
-        (λ d. ap report_number (parse-reports (tree-in-language.0 d)).0),
+        (λ d. ap answer_number (parse-reports (tree-in-language.0 d)).0),
       )
         where
           to : {o : Outcome} → Verdict (grammar_of words) tokens reader.moves o → outcome reader.last ≡ o
-              → report_number (parse_answer words tokens room (length out)) ≡ 0 → InLanguage (grammar_of words) tokens
+              → answer_number (parse_answer words tokens room (length out)) ≡ 0 → InLanguage (grammar_of words) tokens
           to (uncut.accepted t) q e = tree-in-language.1 t
           to (uncut.refused never first) q e =
-              let w = ap report_number (refused-with q).0 in
+              let w = ap answer_number (refused-with q).0 in
               let n = (first-refusal-number first).0 in
               absurd (omega arith)
 

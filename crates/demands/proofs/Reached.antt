@@ -7,7 +7,7 @@ use Rattle.std.proofs.Common.{sym, ◌∙◌, inl, inr, arith}
 use Rattle.std.proofs.Math.Path.{ap}
 use Rattle.refusals.specs.declared.Refusal.{Refusal}
 use Rattle.refusals.specs.declared.Refusal.TheVariants.{Unfinished}
-use Rattle.refusals.specs.Refusals.{number_of, report_number}
+use Rattle.refusals.specs.Refusals.{number_of, answer_number}
 use Rattle.language.specs.Trees.{Span, Reduction}
 use Rattle.machine.specs.Moves.{Stuck}
 use Rattle.machine.specs.States.{State, Outcome, refused_row, reported, refusal_of, outcome}
@@ -99,15 +99,15 @@ module _ {words bytes tokens cuts area₀ : List ℕ} (begun : Begun words bytes
         ap (λ a. in_shape words matrix a) there.area_is
         ∙ stands words matrix (shape_is words bytes begun.loads matrix of_load) (standing-safe begun there) there.rest
 
-    pub report-number : (room : ℕ) → report_number (report_answer words matrix area room) ≡ report_number (outcome_answer (outcome there.state) room)
+    pub report-number : (room : ℕ) → answer_number (report_answer words matrix area room) ≡ answer_number (outcome_answer (outcome there.state) room)
     unfolding report_answer
-    report-number room = ap (λ o. report_number (outcome_answer o room)) report-there
+    report-number room = ap (λ o. answer_number (outcome_answer o room)) report-there
 
     -- .. nor does a report answer 15
-    pub report-never-15 : (room : ℕ) → report_number (report_answer words matrix area room) ≡ 15 → ⊥
+    pub report-never-15 : (room : ℕ) → answer_number (report_answer words matrix area room) ≡ 15 → ⊥
     report-never-15 room e = go (outcome-number there.state room) (sym (report-number room) ∙ e)
       where
-        go : {o : Outcome} → OutcomeNumber o room → report_number (outcome_answer o room) ≡ 15 → ⊥
+        go : {o : Outcome} → OutcomeNumber o room → answer_number (outcome_answer o room) ≡ 15 → ⊥
         go (number_16 q e) h = omega arith
         go (number_stuck a b) h = omega arith
         go (number_11 e) h = omega arith

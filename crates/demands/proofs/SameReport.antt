@@ -6,13 +6,12 @@
 -- Rests on Reached and ParseDemand, on start's StartKept, and on results' Confluent.
 --
 -- Main statements: same-but-moves, same-report; report-counts.
-use Rattle.std.specs.Prelude.{◌≡◌, refl, Bool, true, false, List, ℕ, ◌*◌, ◌≤◌, ltb, length, get_or}
+use Rattle.std.specs.Prelude.{◌≡◌, refl, Bool, true, false, List, ℕ, ◌*◌, ◌≤◌, ltb, length, get_or, Ok, Err}
 use Rattle.std.proofs.Math.Path.{sym, ap}
 use Rattle.std.proofs.Common.{◌∙◌, arith}
 use Rattle.laws.specs.Tests.{le-unless}
 use Rattle.refusals.specs.declared.Refusal.TheVariants.{NoRoom}
-use Rattle.refusals.specs.declared.ReportAnswer.TheVariants.{Report, Refused}
-use Rattle.refusals.specs.Refusals.{report_number, report_value}
+use Rattle.refusals.specs.Refusals.{answer_number, report_value, report_moves}
 use Rattle.language.specs.Words.{count_t, too_low, too_high}
 use Rattle.language.specs.Trees.{Span, Reduction}
 use Rattle.machine.specs.States.{Outcome, refused_row, reported}
@@ -49,7 +48,7 @@ right_tokens {input} can = record {
 
 -- two outcomes that differ in the count alone answer alike
 record Alike (o o' : Outcome) (out : List ℕ) : Type 0 where
-  number : report_number (outcome_answer o (length out)) ≡ report_number (outcome_answer o' (length out))
+  number : answer_number (outcome_answer o (length out)) ≡ answer_number (outcome_answer o' (length out))
   value : report_value (outcome_answer o (length out)) ≡ report_value (outcome_answer o' (length out))
   written : outcome_out o out ≡ outcome_out o' out
 
@@ -64,18 +63,18 @@ alike (reported l m) (reported l' m') out e = let z : l ≡ l' = cc in rw z (go 
     go false q = record { number = rw (q, outcome_answer); value = rw (q, outcome_answer); written = refl }
 
 -- a report's count is the outcome's
-counts : (o : Outcome) (room : ℕ) {entries count : ℕ} → outcome_answer o room ≡ Report entries count → (l : List (Reduction Span)) × (o ≡ reported l count)
+counts : (o : Outcome) (room : ℕ) {entries count : ℕ} → outcome_answer o room ≡ Ok (record { entries = entries; moves = count }) → (l : List (Reduction Span)) × (o ≡ reported l count)
 counts (refused_row r) room e = let z : ◌≡◌ {A = ℕ} 0 1 = cc in absurd (omega arith)
 counts (reported l m) room {entries} {count} e = go (ltb room (3 * length l)) refl
   where
     go : (b : Bool) → ltb room (3 * length l) ≡ b → (l' : List (Reduction Span)) × (reported l m ≡ reported l' count)
     go true q =
-        let f : outcome_answer (reported l m) room ≡ Refused (NoRoom (3 * length l)) = rw (q, outcome_answer) in
+        let f : outcome_answer (reported l m) room ≡ Err (NoRoom (3 * length l)) = rw (q, outcome_answer) in
         let z : ◌≡◌ {A = ℕ} 0 1 = cc in
         absurd (omega arith)
     go false q =
-        let f : outcome_answer (reported l m) room ≡ Report (length l) m = rw (q, outcome_answer) in
-        let z : m ≡ count = cc in
+        let f : outcome_answer (reported l m) room ≡ Ok (record { entries = length l; moves = m }) = rw (q, outcome_answer) in
+        let z : m ≡ count = ap report_moves (sym f ∙ e) in
         (l, ap (λ k. reported l k) z)
 
 module _ {words bytes tokens cuts area₀ : List ℕ} (begun : Begun words bytes tokens cuts area₀) {calls : List Call} (own : AllOfLoad words bytes calls) (matrix : List ℕ) (of_load : OfLoad words bytes matrix) where
@@ -86,11 +85,11 @@ module _ {words bytes tokens cuts area₀ : List ℕ} (begun : Begun words bytes
   right = right_tokens (startable begun)
 
   -- the row has an answer where its report is not 16
-  pub answered : (room : ℕ) → (report_number (report_answer words matrix area room) ≡ 16 → ⊥) → Answered (there begun own).state
-  answered room h q = h (report-number begun own matrix of_load room ∙ ap (λ o. report_number (outcome_answer o room)) q)
+  pub answered : (room : ℕ) → (answer_number (report_answer words matrix area room) ≡ 16 → ⊥) → Answered (there begun own).state
+  answered room h q = h (report-number begun own matrix of_load room ∙ ap (λ o. answer_number (outcome_answer o room)) q)
 
   -- the outcome is that of the one-call parse, its count aside
-  pub same-but-moves : (room : ℕ) → (report_number (report_answer words matrix area room) ≡ 16 → ⊥)
+  pub same-but-moves : (room : ℕ) → (answer_number (report_answer words matrix area room) ≡ 16 → ⊥)
       → without_moves (report_outcome words matrix area) ≡ without_moves (parse_outcome words tokens)
   same-but-moves room h =
       let a = accepted words bytes begun.loads in
@@ -101,21 +100,21 @@ module _ {words bytes tokens cuts area₀ : List ℕ} (begun : Begun words bytes
       ∙ ap without_moves (sym (parse-reads a right reader))
 
   -- number, value (for a report, its entries) and written words are the parse's
-  pub same-report : (out : List ℕ) → (report_number (report_answer words matrix area (length out)) ≡ 16 → ⊥) → (room : ℕ) → need (length tokens) 1 ≤ room
-      → (report_number (report_answer words matrix area (length out)) ≡ report_number (parse_answer words tokens room (length out)))
+  pub same-report : (out : List ℕ) → (answer_number (report_answer words matrix area (length out)) ≡ 16 → ⊥) → (room : ℕ) → need (length tokens) 1 ≤ room
+      → (answer_number (report_answer words matrix area (length out)) ≡ answer_number (parse_answer words tokens room (length out)))
       × (report_value (report_answer words matrix area (length out)) ≡ report_value (parse_answer words tokens room (length out)))
       × (report_out words matrix area out ≡ parse_out words tokens room out)
   unfolding report_answer report_out
   same-report out h room enough =
       let a = accepted words bytes begun.loads in
       let same = alike (report_outcome words matrix area) (parse_outcome words tokens) out (same-but-moves (length out) h) in (
-        same.number ∙ ap report_number (sym (parse-answers a right room enough (length out))),
+        same.number ∙ ap answer_number (sym (parse-answers a right room enough (length out))),
         same.value ∙ ap report_value (sym (parse-answers a right room enough (length out))),
         same.written ∙ sym (parse-writes a right room enough out),
       )
 
   -- a report's own count is the number of moves that the calls' answers tell of
-  pub report-counts : (room : ℕ) {entries count : ℕ} → report_answer words matrix area room ≡ Report entries count → count ≡ moves_made words area₀ calls
+  pub report-counts : (room : ℕ) {entries count : ℕ} → report_answer words matrix area room ≡ Ok (record { entries = entries; moves = count }) → count ≡ moves_made words area₀ calls
   unfolding report_answer
   report-counts room {entries} {count} e =
       let c = counts (report_outcome words matrix area) room e in

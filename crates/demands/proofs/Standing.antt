@@ -2,14 +2,12 @@
 -- the words of a state that the machine's named moves reach from the start, as many of them as the calls' answers tell of.
 --
 -- Main statements: standing-begun, call-view, standing-call, standing-after.
-use Rattle.std.specs.Prelude.{◌≡◌, true, ◌⊎◌, List, ◌++◌, ℕ, suc, ◌+◌, ◌≤◌, length}
+use Rattle.std.specs.Prelude.{◌≡◌, true, ◌⊎◌, List, ◌++◌, ℕ, suc, ◌+◌, ◌≤◌, length, Ok, Err}
 use Rattle.std.proofs.Math.Path.{refl, ap}
 use Rattle.std.proofs.Common.{sym, subst, ◌∙◌, inl, inr, arith}
 use Rattle.std.proofs.Math.ListN.{drop}
 use Rattle.refusals.specs.declared.Refusal.{Refusal}
 use Rattle.refusals.specs.declared.Refusal.TheVariants.{NoChunk, AtRest, NoJoin}
-use Rattle.refusals.specs.declared.Answer.TheVariants.{Done}
-use Rattle.refusals.specs.declared.RunAnswer.TheVariants as runs
 use Rattle.refusals.specs.Refusals.{number_of, answer_number}
 use Rattle.language.specs.Words.{grammar_of}
 use Rattle.language.specs.Matrix.{matrix_of}
@@ -49,7 +47,7 @@ at-12-14 : (why : Refusal) → (why ≡ NoChunk) ⊎ (why ≡ NoJoin) → (12 �
 at-12-14 why (inl e) = let z = ap number_of e in (omega arith, omega arith)
 at-12-14 why (inr e) = let z = ap number_of e in (omega arith, omega arith)
 
-module _ (words bytes : List ℕ) (loads : load_answer words (length bytes) ≡ Done) {n : ℕ} {s : State Span} (safe : Safe words n s) (rest : List ℕ) where
+module _ (words bytes : List ℕ) (loads : load_answer words (length bytes) ≡ Ok tt) {n : ℕ} {s : State Span} (safe : Safe words n s) (rest : List ℕ) where
   abbrev area : List ℕ
   area = encode n s ++ rest
 
@@ -83,10 +81,10 @@ module _ (words bytes : List ℕ) (loads : load_answer words (length bytes) ≡ 
             → CallView words n s rest area (a_run matrix c budget)
         go (refused_run why) q is =
             let a = at-12-13 why (run-refuses (own_table words) c budget s why q) in
-            let e : run_answer words matrix area c budget ≡ runs.Refused why = ap ran_answer (is ∙ q) in
+            let e : run_answer words matrix area c budget ≡ Err why = ap ran_answer (is ∙ q) in
             refused_so (rw e a.0) (rw e a.1) (rw e) (ap (λ x. ran_area x area) (is ∙ q))
         go (ran j s') q is =
-            let e : run_answer words matrix area c budget ≡ runs.Moves j = ap ran_answer (is ∙ q) in
+            let e : run_answer words matrix area c budget ≡ Ok j = ap ran_answer (is ∙ q) in
             moved_so s' (rw e) (ap (λ x. ran_area x area) (is ∙ q) ∙ leaves words matrix grammar safe rest s')
             (rw e (made-scheduled (own_table words) c ((run-exactly (own_table words) c budget s j s').0 q).made))
 

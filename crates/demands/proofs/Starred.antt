@@ -1,13 +1,12 @@
 -- What is proved of specs' Starred. The starred samples of document 01, all of them, as one table under one theorem, computed from the definitions that the contracts cite.
 --
 -- Main statements: starred; begun-K.
-use Rattle.std.specs.Prelude.{◌≡◌, true, ℕ, ◌*◌}
+use Rattle.std.specs.Prelude.{◌≡◌, true, ℕ, ◌*◌, Ok}
 use Rattle.std.proofs.Math.Path.{refl, ap}
 use Rattle.std.proofs.Common.{◌∙◌}
 use mathlib.Core.List.{List, [], ◌∷◌, ◌++◌}
 use Rattle.std.proofs.Math.ListN.{length, drop}
 use Rattle.std.proofs.lemmas.List.{length-replicate}
-use Rattle.refusals.specs.declared.Answer.TheVariants as answer
 use Rattle.language.specs.Grammar.{in_play, mirrored}
 use Rattle.language.specs.Words.{grammar_of}
 use Rattle.language.specs.CheckSamples.{words_k}
@@ -54,7 +53,7 @@ abbrev after_call : Called Span → State Span → State Span
 after_call (refused why) s = s
 after_call (became s') s = s'
 
-module _ (words : List ℕ) (loads : load_answer words 4096 ≡ answer.Done) where
+module _ (words : List ℕ) (loads : load_answer words 4096 ≡ Ok tt) where
   -- start goes on to its other stages
   starts : (matrix tokens cuts : List ℕ) (room : ℕ) → grammar_in_shape words matrix ≡ true → start_answer words matrix tokens cuts room
       ≡ checked later_stages (record { words = words; matrix = matrix; tokens = tokens; cuts = cuts; room = room })
@@ -81,7 +80,7 @@ module _ (words : List ℕ) (loads : load_answer words 4096 ≡ answer.Done) whe
 
   -- cut rows
 
-  loads-so : load_answer words (length (zeros 4096)) ≡ answer.Done
+  loads-so : load_answer words (length (zeros 4096)) ≡ Ok tt
   loads-so = rw (length-replicate {A = ℕ} 4096 0) loads
 
   grammar : grammar_in_shape words (bytes_of words) ≡ true
@@ -138,8 +137,8 @@ module _ (words : List ℕ) (loads : load_answer words 4096 ≡ answer.Done) whe
     abbrev together_state : State Span
     together_state = resting 0 (after_call (join 0 apart_state) apart_state)
 
-    module _ (can : checked later_stages cut_input ≡ answer.Done) where
-      done : start_answer words (bytes_of words) tokens (cut ∷ []) (length (zeros (need (length tokens) 2))) ≡ answer.Done
+    module _ (can : checked later_stages cut_input ≡ Ok tt) where
+      done : start_answer words (bytes_of words) tokens (cut ∷ []) (length (zeros (need (length tokens) 2))) ≡ Ok tt
       done = starts (bytes_of words) tokens (cut ∷ []) (length (zeros (need (length tokens) 2))) grammar ∙ can
 
       start-holds : Holding (length tokens) (start_area words (bytes_of words) tokens (cut ∷ []) (zeros (need (length tokens) 2))) (start tokens (cut ∷ []))
@@ -170,11 +169,11 @@ module _ (words : List ℕ) (loads : load_answer words 4096 ≡ answer.Done) whe
           let h = apart-holds in
           ap (λ s. of_chunk (chunk_at s 1)) (ap decode h.is ∙ reads words (bytes_of words) grammar h.safe h.rest)
 
-loads-K : load_answer words_k 4096 ≡ answer.Done
+loads-K : load_answer words_k 4096 ≡ Ok tt
 unfolding load_answer conflict_stage clash grammar_of left_member in_play mirrored equal_test yields_test takes_test
 loads-K = refl
 
-loads-19 : load_answer words19 4096 ≡ answer.Done
+loads-19 : load_answer words19 4096 ≡ Ok tt
 unfolding load_answer conflict_stage clash grammar_of left_member in_play mirrored equal_test yields_test takes_test
 loads-19 = refl
 

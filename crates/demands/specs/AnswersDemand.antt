@@ -5,15 +5,14 @@
 --
 -- Main definition: ParseAreaLeft.
 -- What is proved of them: proofs' AnswersDemand; here the lemma refused-first, which an edit names, and what it rests on.
-use Rattle.std.specs.Prelude.{◌≡◌, ◌⊎◌, ℕ, ◌≤◌, ◌<◌, length}
+use Rattle.std.specs.Prelude.{◌≡◌, ◌⊎◌, ℕ, ◌≤◌, ◌<◌, length, Err}
 use Rattle.std.proofs.Math.Path.{ap}
 use Rattle.std.proofs.Common.{arith}
 use mathlib.Core.List.{List, ◌++◌}
 use Rattle.std.proofs.Math.ListN.{drop}
 use Rattle.refusals.specs.declared.Refusal.{Refusal}
-use Rattle.refusals.specs.declared.Answer.TheVariants.{Refused}
-use Rattle.refusals.specs.declared.ReportAnswer.{ReportAnswer}
-use Rattle.refusals.specs.Refusals.{report_number}
+use Rattle.refusals.specs.Answers.{ReportAnswer}
+use Rattle.refusals.specs.Refusals.{answer_number}
 use Rattle.layout.specs.Layout.{need, zeros}
 use Rattle.parse.specs.ParseCall.{parsed_area, parse_begun, parse_area}
 use Rattle.demands.specs.Reached.{at-17-20}
@@ -38,11 +37,11 @@ pub record ParseAreaLeft (words tokens area out : List ℕ) : Type 0 where
       → parse_area words tokens area ≡ zeros (need (length tokens) 1) ++ drop (need (length tokens) 1) area
 
 module _ (words tokens area out : List ℕ) where
-  pub area-stays : {refusal : Refusal} → parse_begun words tokens (length area) ≡ Refused refusal → parse_area words tokens area ≡ area
+  pub area-stays : {refusal : Refusal} → parse_begun words tokens (length area) ≡ Err refusal → parse_area words tokens area ≡ area
   unfolding parse_area
   area-stays e = ap (λ a. parsed_area a (length tokens) area) e
 
-  pub refused-first : {answer : ReportAnswer} → ParseGiven words tokens (length area) (length out) answer → 1 ≤ report_number answer → report_number answer ≤ 9
+  pub refused-first : {answer : ReportAnswer} → ParseGiven words tokens (length area) (length out) answer → 1 ≤ answer_number answer → answer_number answer ≤ 9
       → parse_area words tokens area ≡ area
   refused-first (parse_words e) low high = area-stays (refused-by-load words tokens (length area) e)
   refused-first (parse_row e f) low high = area-stays (refused-by-start words tokens (length area) e f)

@@ -5,12 +5,9 @@
 -- Rests on moving's Calls and language's Refusals and Loads.
 --
 -- Main definitions: Call, call_number, call_made, call_area; area_after, moves_made; OfLoad, AllOfLoad, Begun.
-use Rattle.std.specs.Prelude.{◌≡◌, List, [], ◌∷◌, ℕ, ◌+◌, length, take}
-use Rattle.refusals.specs.declared.Answer.{Answer}
-use Rattle.refusals.specs.declared.Answer.TheVariants.{Done, Refused}
-use Rattle.refusals.specs.declared.RunAnswer.{RunAnswer}
-use Rattle.refusals.specs.declared.RunAnswer.TheVariants as run
-use Rattle.refusals.specs.Refusals.{answer_number, run_number}
+use Rattle.std.specs.Prelude.{◌≡◌, List, [], ◌∷◌, ℕ, ◌+◌, length, take, Ok, Err}
+use Rattle.refusals.specs.Answers.{Answer, RunAnswer}
+use Rattle.refusals.specs.Refusals.{answer_number}
 use Rattle.language.specs.Loads.{load_answer, load_bytes}
 use Rattle.start.specs.Start.{start_answer, start_area}
 use Rattle.moving.specs.Calls.{step_answer, step_area, run_answer, run_area, join_answer, join_area}
@@ -31,16 +28,16 @@ matrix_for (a_join matrix c) = matrix
 -- the number that it answers: 0 is success
 abbrev pub call_number : List ℕ → List ℕ → Call → ℕ
 call_number words area (a_step matrix c) = answer_number (step_answer words matrix area c)
-call_number words area (a_run matrix c budget) = run_number (run_answer words matrix area c budget)
+call_number words area (a_run matrix c budget) = answer_number (run_answer words matrix area c budget)
 call_number words area (a_join matrix c) = answer_number (join_answer words matrix area c)
 
 abbrev pub one_if_done : Answer → ℕ
-one_if_done Done = 1
-one_if_done (Refused refusal) = 0
+one_if_done (Ok _) = 1
+one_if_done (Err refusal) = 0
 
 abbrev pub moves_of_run : RunAnswer → ℕ
-moves_of_run (run.Moves made) = made
-moves_of_run (run.Refused refusal) = 0
+moves_of_run (Ok made) = made
+moves_of_run (Err refusal) = 0
 
 -- the moves that its answer tells of: 1 for a step or a join that is accepted, a run's own number, 0 for a refusal
 abbrev pub call_made : List ℕ → List ℕ → Call → ℕ
@@ -77,9 +74,9 @@ pub data AllOfLoad (words bytes : List ℕ) : List Call → Type 0 where
 
 -- the words and bytes of an accepted load, and the area that an accepted start left; `lent` is what start was lent for it
 pub record Begun (words bytes tokens cuts area : List ℕ) : Type 0 where
-  pub loads : load_answer words (length bytes) ≡ Done
+  pub loads : load_answer words (length bytes) ≡ Ok tt
   pub matrix : List ℕ
   pub of_load : OfLoad words bytes matrix
   pub lent : List ℕ
-  pub starts : start_answer words matrix tokens cuts (length lent) ≡ Done
+  pub starts : start_answer words matrix tokens cuts (length lent) ≡ Ok tt
   pub area_is : area ≡ start_area words matrix tokens cuts lent

@@ -16,8 +16,8 @@ use prog.Routine.{Routine}
 use types.Logic.{Logic}
 use contract.Monad.{Fun}
 use contract.Notation
-use Rattle.refusals.specs.contracts.number as number
-use Rattle.refusals.specs.contracts.value as value
+use Rattle.refusals.specs.contracts.Refusal.number as number
+use Rattle.refusals.specs.contracts.Refusal.value as value
 use Rattle.refusals.specs.contracts.stuck_refusal as stuck-refusal
 use Rattle.words.specs.contracts.check_symbols as check-symbols
 use Rattle.words.specs.contracts.check_words as check-words
@@ -34,6 +34,7 @@ use Rattle.reader.specs.contracts.join as join
 use Rattle.reader.specs.contracts.read_through as read-through
 use Rattle.parse.specs.contracts.parse as parse
 use Rattle.report.specs.contracts.report as report
+use Rattle.report.specs.contracts.entry_range as entry-range
 use Rattle.report.specs.contracts.entry_tokens as entry-tokens
 use Rattle.demands.specs.PublicCalls.{PublicCall, GivesBack, promised, Both, AllThree, Keeps}
 use Rattle.demands.specs.PublicCalls as call
@@ -114,6 +115,9 @@ module _ {M : Type 1} {𝓤 : Ura M} (𝓛 : Logic 𝓤) (mem : Memory → SProp
     pub of_parse : (κs args r end : _)
         → Says ((parse.clauses 𝓛 mem routines κs args).requires tt) ((parse.clauses 𝓛 mem routines κs args).ensures tt r end)
         (three_lines (r, end.1.1.0.now, end.1.1.1.0.now) (promised (call.parse args.0.now args.1.0.now args.1.1.0.now args.1.1.1.0.now)))
+    pub of_entry_range : (κs args r end : _)
+        → Says ((entry-range.clauses 𝓛 mem routines κs args).requires tt) ((entry-range.clauses 𝓛 mem routines κs args).ensures tt r end)
+        (two_lines (r.start, r.end) (promised (call.entry-range args.0.now args.1.0 args.1.1.0)))
     pub of_entry_tokens : (κs args r end : _)
         → Says ((entry-tokens.clauses 𝓛 mem routines κs args).requires tt) ((entry-tokens.clauses 𝓛 mem routines κs args).ensures tt r end)
         (two_lines (r.now, r.ref_ptr) (promised (call.entry-tokens args.0.now args.1.0 args.1.1.0.now args.1.1.0.ref_ptr)))
@@ -138,6 +142,7 @@ module _ {M : Type 1} {𝓤 : Ura M} (𝓛 : Logic 𝓤) (mem : Memory → SProp
     of_read_through = λ κs args r end. (refl, refl);
     of_report = λ κs args r end. (refl, refl);
     of_parse = λ κs args r end. (refl, refl);
+    of_entry_range = λ κs args r end. (refl, refl);
     of_entry_tokens = λ κs args r end. (refl, refl);
   }
 
@@ -170,6 +175,7 @@ promise-kept (call.join words matrix area c) = (refl, refl)
 promise-kept (call.read-through words matrix tokens area) = (refl, refl)
 promise-kept (call.report words matrix area out) = (refl, refl)
 promise-kept (call.parse words tokens area out) = (refl, refl, refl)
+promise-kept (call.entry-range entries e count) = (refl, refl)
 promise-kept (call.entry-tokens entries e tokens place) = (refl, refl)
 
 -- and there is no other
@@ -192,4 +198,5 @@ one-answer-only (call.join words matrix area c) x y p q = both p q
 one-answer-only (call.read-through words matrix tokens area) x y p q = both p q
 one-answer-only (call.report words matrix area out) x y p q = both p q
 one-answer-only (call.parse words tokens area out) x y p q = all_three p q
+one-answer-only (call.entry-range entries e count) x y p q = both p q
 one-answer-only (call.entry-tokens entries e tokens place) x y p q = both p q

@@ -5,14 +5,11 @@
 --
 -- Main definitions: Demand1, Demand1Contracts, Demand1Parse; Demand2Parse, Demand2Moves, Demand2Reached; Demand3, Demand3Finishes;
 -- StartNever15.
-use Rattle.std.specs.Prelude.{◌≡◌, true, ◌↔◌, ℕ, ◌+◌, ◌*◌, ◌-◌, ◌≤◌, ◌<◌, length, get_or, drop}
+use Rattle.std.specs.Prelude.{◌≡◌, true, ◌↔◌, ℕ, ◌+◌, ◌*◌, ◌-◌, ◌≤◌, ◌<◌, length, get_or, drop, Ok, Err}
 use mathlib.Core.List.{List, [], ◌∷◌, ◌++◌, Memᴰ}
 use Rattle.refusals.specs.declared.Refusal.{Refusal}
 use Rattle.refusals.specs.declared.Refusal.TheVariants.{BadState}
-use Rattle.refusals.specs.declared.Answer.TheVariants.{Done}
-use Rattle.refusals.specs.declared.Answer.TheVariants as answer
-use Rattle.refusals.specs.declared.ReportAnswer.TheVariants.{Report, Refused}
-use Rattle.refusals.specs.Refusals.{report_number, report_value}
+use Rattle.refusals.specs.Refusals.{answer_number, report_value}
 use Rattle.language.specs.Words.{grammar_of}
 use Rattle.language.specs.Loads.{load_answer}
 use Rattle.language.specs.Trees.{Span}
@@ -80,7 +77,7 @@ Demand1Parse = (words tokens area out : List ℕ) → ParseAreaLeft words tokens
 
 pub record ParseRight (words tokens : List ℕ) (room : ℕ) (out : List ℕ) : Type 0 where
   -- parse accepts exactly when the grammar of the words derives the tokens from an axiom
-  pub accepts : (report_number (parse_answer words tokens room (length out)) ≡ 0) ↔ InLanguage (grammar_of words) tokens
+  pub accepts : (answer_number (parse_answer words tokens room (length out)) ≡ 0) ↔ InLanguage (grammar_of words) tokens
   -- the uncut reader: chunk 0 makes one move after the other until it rests; there is one such reading
   pub reader : UncutReader words tokens
   pub one_reading : {moves : ℕ} {last : State Span} → ReadThrough (own_table words) (start tokens []) moves last
@@ -91,12 +88,12 @@ pub record ParseRight (words tokens : List ℕ) (room : ℕ) (out : List ℕ) : 
   -- where no axiom derives the tokens it answers the number and place at which the uncut reader gets stuck, never 16 or 20
   pub refuses : (InLanguage (grammar_of words) tokens → ⊥)
       → (refusal : Refusal) × GotStuck tokens reader.last refusal
-      × (parse_answer words tokens room (length out) ≡ Refused refusal) × (parse_out words tokens room out ≡ out)
+      × (parse_answer words tokens room (length out) ≡ Err refusal) × (parse_out words tokens room out ≡ out)
 
 -- words accepted by load, 1 to 16,384 tokens in 1..T, runs long enough
 abbrev pub Demand2Parse : Type 0
 Demand2Parse =
-    (words bytes tokens : List ℕ) → load_answer words (length bytes) ≡ Done → RightTokens words tokens
+    (words bytes tokens : List ℕ) → load_answer words (length bytes) ≡ Ok tt → RightTokens words tokens
     → (room : ℕ) → need (length tokens) 1 ≤ room → (out : List ℕ) → 3 * length tokens ≤ length out → ParseRight words tokens room out
 
 -- ---- demand 2, step, run and join
@@ -136,28 +133,28 @@ pub record AnyOrder (words bytes tokens cuts area₀ : List ℕ) (calls : List C
   pub reached : Standing words tokens cuts area (moves_made words area₀ calls)
   -- (a) none of the calls answers 15, and a refused one changes nothing; nor does the report answer 15
   pub each_call : EachRight words area₀ calls
-  pub report_not_15 : (matrix : List ℕ) → OfLoad words bytes matrix → (room : ℕ) → report_number (report_answer words matrix area room) ≡ 15 → ⊥
+  pub report_not_15 : (matrix : List ℕ) → OfLoad words bytes matrix → (room : ℕ) → answer_number (report_answer words matrix area room) ≡ 15 → ⊥
   -- (b) while the report answers 16, some step or join answers 0
-  pub goes_on : (matrix : List ℕ) → OfLoad words bytes matrix → (room : ℕ) → report_number (report_answer words matrix area room) ≡ 16
+  pub goes_on : (matrix : List ℕ) → OfLoad words bytes matrix → (room : ℕ) → answer_number (report_answer words matrix area room) ≡ 16
       → SomeMove words matrix area
   -- .. and once it does not, no call makes a move
-  pub rests : (matrix : List ℕ) → OfLoad words bytes matrix → (room : ℕ) → (report_number (report_answer words matrix area room) ≡ 16 → ⊥)
+  pub rests : (matrix : List ℕ) → OfLoad words bytes matrix → (room : ℕ) → (answer_number (report_answer words matrix area room) ≡ 16 → ⊥)
       → (call : Call) → OfLoad words bytes (matrix_for call) → call_made words area call ≡ 0
   -- (c) steps accepted, answers of runs and joins accepted are together the area's count, at most nC + n + 4C - 2, C a chunk more than
   -- cuts; a report's own count is this too
   pub counted : moves_in area ≡ moves_made words area₀ calls
   pub few : moves_made words area₀ calls ≤ length tokens * (length cuts + 1) + length tokens + 4 * (length cuts + 1) - 2
-  pub report_count : (matrix : List ℕ) → OfLoad words bytes matrix → (room : ℕ) {entries count : ℕ} → report_answer words matrix area room ≡ Report entries count
+  pub report_count : (matrix : List ℕ) → OfLoad words bytes matrix → (room : ℕ) {entries count : ℕ} → report_answer words matrix area room ≡ Ok (record { entries = entries; moves = count })
       → count ≡ moves_made words area₀ calls
   -- (d) where the report does not answer 16, its number, value, entries and written words are parse's, and only the count may differ; the
   -- value of a report is the number of its entries. Parse needs its own area; a short report run gives both 11
-  pub same_as_parse : (matrix : List ℕ) → OfLoad words bytes matrix → (out : List ℕ) → (report_number (report_answer words matrix area (length out)) ≡ 16 → ⊥)
+  pub same_as_parse : (matrix : List ℕ) → OfLoad words bytes matrix → (out : List ℕ) → (answer_number (report_answer words matrix area (length out)) ≡ 16 → ⊥)
       → (room : ℕ) → need (length tokens) 1 ≤ room
-      → (report_number (report_answer words matrix area (length out)) ≡ report_number (parse_answer words tokens room (length out)))
+      → (answer_number (report_answer words matrix area (length out)) ≡ answer_number (parse_answer words tokens room (length out)))
       × (report_value (report_answer words matrix area (length out)) ≡ report_value (parse_answer words tokens room (length out)))
       × (report_out words matrix area out ≡ parse_out words tokens room out)
   -- .. for the outcome itself is parse's, its count aside, whatever the runs
-  pub same_outcome : (matrix : List ℕ) → OfLoad words bytes matrix → (room : ℕ) → (report_number (report_answer words matrix area room) ≡ 16 → ⊥)
+  pub same_outcome : (matrix : List ℕ) → OfLoad words bytes matrix → (room : ℕ) → (answer_number (report_answer words matrix area room) ≡ 16 → ⊥)
       → without_moves (report_outcome words matrix area) ≡ without_moves (parse_outcome words tokens)
 
 abbrev pub Demand3 : Type 0
@@ -183,5 +180,5 @@ Demand3Finishes =
 -- 15 "is never given to a start with the words and matrix of an accepted load", whatever the tokens, the cuts and the area
 abbrev pub StartNever15 : Type 0
 StartNever15 =
-    (words bytes matrix : List ℕ) → load_answer words (length bytes) ≡ Done → OfLoad words bytes matrix
-    → (tokens cuts : List ℕ) (room : ℕ) → start_answer words matrix tokens cuts room ≡ answer.Refused BadState → ⊥
+    (words bytes matrix : List ℕ) → load_answer words (length bytes) ≡ Ok tt → OfLoad words bytes matrix
+    → (tokens cuts : List ℕ) (room : ℕ) → start_answer words matrix tokens cuts room ≡ Err BadState → ⊥

@@ -7,17 +7,16 @@
 --
 -- Main definitions: SomeMove, first_calls, GoesOn, AllMove.
 -- What is proved of them: proofs' Finishing.
-use Rattle.std.specs.Prelude.{◌≡◌, List, [], ◌∷◌, ◌++◌, ℕ, zero, suc, ◌≤◌, ◌<◌}
-use Rattle.refusals.specs.declared.Answer.TheVariants.{Done}
-use Rattle.refusals.specs.Refusals.{report_number}
+use Rattle.std.specs.Prelude.{◌≡◌, List, [], ◌∷◌, ◌++◌, ℕ, zero, suc, ◌≤◌, ◌<◌, Ok}
+use Rattle.refusals.specs.Refusals.{answer_number}
 use Rattle.moving.specs.Calls.{step_answer, join_answer}
 use Rattle.report.specs.ReportCall.{report_answer}
 use Rattle.demands.specs.Calls.{Call, call_made, call_area, area_after, AllOfLoad}
 
 -- a step or a join that is accepted: it answers 0 (Done)
 pub data SomeMove (words matrix area : List ℕ) : Type 0 where
-  some_step : (c : ℕ) → c < 64 → step_answer words matrix area c ≡ Done → SomeMove words matrix area
-  some_join : (c : ℕ) → c < 64 → join_answer words matrix area c ≡ Done → SomeMove words matrix area
+  some_step : (c : ℕ) → c < 64 → step_answer words matrix area c ≡ Ok tt → SomeMove words matrix area
+  some_join : (c : ℕ) → c < 64 → join_answer words matrix area c ≡ Ok tt → SomeMove words matrix area
 
 -- ---- (b)
 
@@ -36,7 +35,7 @@ pub data AllMove (words : List ℕ) : List ℕ → List Call → Type 0 where
 
 -- the report's number after some calls, with this matrix and a report run of that many words
 abbrev pub report_after : List ℕ → List ℕ → List ℕ → ℕ → List Call → ℕ
-report_after words area₀ matrix room calls = report_number (report_answer words matrix (area_after words area₀ calls) room)
+report_after words area₀ matrix room calls = answer_number (report_answer words matrix (area_after words area₀ calls) room)
 
 -- where the report answers 16 after i calls, a call from there on makes a move
 abbrev pub GoesOn : List ℕ → List ℕ → List ℕ → ℕ → (ℕ → Call) → Type 0

@@ -10,9 +10,7 @@
 -- Main definitions: StepLeaves, RunLeaves, JoinLeaves.
 -- What is proved of them: proofs' MoveDemand.
 use Rattle.std.proofs.Math.Path.{◌≡◌}
-use Rattle.std.specs.Prelude.{List, ◌++◌, ℕ}
-use Rattle.refusals.specs.declared.Answer.TheVariants.{Done}
-use Rattle.refusals.specs.declared.RunAnswer.TheVariants as runs
+use Rattle.std.specs.Prelude.{List, ◌++◌, ℕ, Ok}
 use Rattle.language.specs.Trees.{Span}
 use Rattle.machine.specs.States.{State}
 use Rattle.layout.specs.Layout.{encode}
@@ -21,13 +19,13 @@ use Rattle.moving.specs.Calls.{step_answer, step_area, run_answer, run_area, joi
 
 -- a step of chunk c is accepted and leaves the words of s', a state of n tokens that keeps the rules; what stands beyond stays
 abbrev pub StepLeaves : List ℕ → List ℕ → List ℕ → List ℕ → ℕ → ℕ → State Span → Type 0
-StepLeaves words matrix area beyond n c s' = (step_answer words matrix area c ≡ Done) × Safe words n s' × (step_area words matrix area c ≡ encode n s' ++ beyond)
+StepLeaves words matrix area beyond n c s' = (step_answer words matrix area c ≡ Ok tt) × Safe words n s' × (step_area words matrix area c ≡ encode n s' ++ beyond)
 
 -- a run of chunk c answers j moves and leaves the words of s'
 abbrev pub RunLeaves : List ℕ → List ℕ → List ℕ → List ℕ → ℕ → ℕ → ℕ → ℕ → State Span → Type 0
 RunLeaves words matrix area beyond n c budget j s' =
-    (run_answer words matrix area c budget ≡ runs.Moves j) × Safe words n s' × (run_area words matrix area c budget ≡ encode n s' ++ beyond)
+    (run_answer words matrix area c budget ≡ Ok j) × Safe words n s' × (run_area words matrix area c budget ≡ encode n s' ++ beyond)
 
 -- a join of chunk c is accepted and leaves the words of s'
 abbrev pub JoinLeaves : List ℕ → List ℕ → List ℕ → List ℕ → ℕ → ℕ → State Span → Type 0
-JoinLeaves words matrix area beyond n c s' = (join_answer words matrix area c ≡ Done) × Safe words n s' × (join_area words matrix area c ≡ encode n s' ++ beyond)
+JoinLeaves words matrix area beyond n c s' = (join_answer words matrix area c ≡ Ok tt) × Safe words n s' × (join_area words matrix area c ≡ encode n s' ++ beyond)

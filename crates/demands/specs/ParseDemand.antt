@@ -7,15 +7,13 @@
 --
 -- Main definitions: RightTokens, UncutReader, entries_of, ParseReports, GotStuck.
 -- What is proved of them: proofs' ParseDemand; here the lemma written, which an edit names, and what it rests on.
-use Rattle.std.specs.Prelude.{◌≡◌, false, ℕ, ◌*◌, ◌≤◌, ◌<◌, ltb, length, get_or, drop}
+use Rattle.std.specs.Prelude.{◌≡◌, false, ℕ, ◌*◌, ◌≤◌, ◌<◌, ltb, length, get_or, drop, Ok}
 use Rattle.std.proofs.Common.{sym, ◌∙◌, arith}
 use Rattle.std.proofs.Math.Path.{ap}
 use mathlib.Core.List.{List, [], ◌++◌}
 use Rattle.laws.specs.Tests.{le-ltb}
 use Rattle.laws.specs.Sorting.{perm-length, sort-perm}
 use Rattle.refusals.specs.declared.Refusal.{Refusal}
-use Rattle.refusals.specs.declared.Answer.TheVariants.{Done}
-use Rattle.refusals.specs.declared.ReportAnswer.TheVariants.{Report}
 use Rattle.refusals.specs.Refusals.{number_of}
 use Rattle.language.specs.Grammar.{Grammar}
 use Rattle.language.specs.Words.{count_t, too_low, too_high, grammar_of}
@@ -63,7 +61,7 @@ entries_of t = post_order 0 (forest_of t.of_root.tree)
 -- parse answers these entries and so many moves, and writes the entries; what stands beyond stays
 abbrev pub ParseReports : List ℕ → List ℕ → ℕ → List ℕ → List (Reduction Span) → ℕ → Type 0
 ParseReports words tokens room out entries moves =
-    (parse_answer words tokens room (length out) ≡ Report (length entries) moves)
+    (parse_answer words tokens room (length out) ≡ Ok (record { entries = length entries; moves = moves }))
     × (parse_out words tokens room out ≡ report_words entries ++ drop (3 * length entries) out)
 
 -- it rests stuck so, at this place; 17, 18 or 19
@@ -95,10 +93,10 @@ module _ {words : List ℕ} (accepted : Accepted words) {tokens : List ℕ} (rig
     pub can-start : Startable input
     can-start = checked-starts words tokens room (record { loads = accepted; some_token = fine-some; few_tokens = fine-few; right_tokens = fine-tokens }) enough
 
-    pub parse-begins : parse_begun words tokens room ≡ Done
+    pub parse-begins : parse_begun words tokens room ≡ Ok tt
     unfolding parse_begun
     parse-begins =
-        let loads : load_answer words 4096 ≡ Done = (accepted-exactly words 4096).1 (accepted, omega arith) in
+        let loads : load_answer words 4096 ≡ Ok tt = (accepted-exactly words 4096).1 (accepted, omega arith) in
         rw (loads, then_start) ((starts-exactly words (matrix_of (grammar_of words)) tokens [] room).1 can-start)
 
     pub parse-answers : (out_room : ℕ) → parse_answer words tokens room out_room ≡ outcome_answer (parse_outcome words tokens) out_room
@@ -142,7 +140,7 @@ module _ {words : List ℕ} (accepted : Accepted words) {tokens : List ℕ} (rig
       written {entries} {moves} e =
           let fits : ltb (length out) (3 * length entries) ≡ false = le-ltb (length out) (3 * length entries) (omega (arith, entries-few e)) in
           let o : parse_outcome words tokens ≡ reported entries moves = parse-reads ∙ e in
-          let answer : outcome_answer (reported entries moves) (length out) ≡ Report (length entries) moves = rw (fits, outcome_answer) in
+          let answer : outcome_answer (reported entries moves) (length out) ≡ Ok (record { entries = length entries; moves = moves }) = rw (fits, outcome_answer) in
           let words_are : outcome_out (reported entries moves) out ≡ report_words entries ++ drop (3 * length entries) out = rw (fits, outcome_out) in (
             parse-answers room enough (length out) ∙ ap (λ x. outcome_answer x (length out)) o ∙ answer,
             parse-writes room enough out ∙ ap (λ x. outcome_out x out) o ∙ words_are,

@@ -6,14 +6,10 @@
 -- Rests on the definitions that the contracts cite, and on nothing else.
 --
 -- Main definitions: PublicCall; GivesBack, promised, Keeps (that the contracts in code say just this: ContractsMet); number_for, numbers_for; Written, written.
-use Rattle.std.specs.Prelude.{◌≡◌, Bool, List, [], ◌∷◌, ℕ, ◌+◌, ◌*◌, length}
+use Rattle.std.specs.Prelude.{◌≡◌, Bool, List, [], ◌∷◌, ℕ, ◌+◌, ◌*◌, length, Ok, Err}
 use Rattle.refusals.specs.declared.Refusal.{Refusal}
-use Rattle.refusals.specs.declared.Answer.{Answer}
-use Rattle.refusals.specs.declared.SetAnswer.{SetAnswer}
-use Rattle.refusals.specs.declared.RunAnswer.{RunAnswer}
-use Rattle.refusals.specs.declared.ReportAnswer.{ReportAnswer}
-use Rattle.refusals.specs.declared.ReportAnswer.TheVariants.{Report, Refused}
-use Rattle.refusals.specs.Refusals.{number_of, value_of, stuck_refusal, answer_number, set_number, run_number, report_number}
+use Rattle.refusals.specs.Answers.{Answer, SetAnswer, RunAnswer, ReportAnswer}
+use Rattle.refusals.specs.Refusals.{number_of, value_of, stuck_refusal, answer_number}
 use Rattle.language.specs.Checks.{check_symbols, check_words}
 use Rattle.language.specs.Loads.{load_answer, load_bytes, left_set_answer, right_set_answer}
 use Rattle.words.specs.declared.Body.{Body}
@@ -25,7 +21,7 @@ use Rattle.start.specs.Start.{start_answer, start_area}
 use Rattle.moving.specs.Calls.{step_answer, step_area, run_answer, run_area, join_answer, join_area}
 use Rattle.moving.specs.ReadCall.{read_answer, read_area}
 use Rattle.parse.specs.ParseCall.{parse_answer, parse_area, parse_out}
-use Rattle.report.specs.ReportCall.{report_answer, report_out, entry_tokens, entry_start, word_address}
+use Rattle.report.specs.ReportCall.{report_answer, report_out, entry_tokens, entry_start, entry_end, word_address}
 
 -- a call, with every word lent to it; `place` is where the token run stands
 pub data PublicCall : Type 0 where
@@ -47,6 +43,7 @@ pub data PublicCall : Type 0 where
   read-through : (words matrix tokens area : List ℕ) → PublicCall
   report : (words matrix area out : List ℕ) → PublicCall
   parse : (words tokens area out : List ℕ) → PublicCall
+  entry-range : (entries : List ℕ) (e count : ℕ) → PublicCall
   entry-tokens : (entries : List ℕ) (e : ℕ) (tokens : List ℕ) (place : ℕ × ℕ) → PublicCall
 
 -- the answer, and after it the runs that the call may write as they are when it ends; of a part of the tokens its words and its place
@@ -69,6 +66,7 @@ GivesBack (join words matrix area c) = Answer × List ℕ
 GivesBack (read-through words matrix tokens area) = Answer × List ℕ
 GivesBack (report words matrix area out) = ReportAnswer × List ℕ
 GivesBack (parse words tokens area out) = ReportAnswer × List ℕ × List ℕ
+GivesBack (entry-range entries e count) = ℕ × ℕ
 GivesBack (entry-tokens entries e tokens place) = List ℕ × (ℕ × ℕ)
 
 -- what the contract promises, for any words lent
@@ -92,6 +90,7 @@ promised (read-through words matrix tokens area) = (read_answer words matrix tok
 promised (report words matrix area out) = (report_answer words matrix area (length out), report_out words matrix area out)
 promised (parse words tokens area out) =
     (parse_answer words tokens (length area) (length out), parse_area words tokens area, parse_out words tokens (length area) out)
+promised (entry-range entries e count) = (entry_start entries e count, entry_end entries e count)
 promised (entry-tokens entries e tokens place) = (entry_tokens entries e tokens, word_address place (entry_start entries e (length tokens)))
 
 -- two lines of a contract, and three, each an equation
@@ -121,6 +120,7 @@ Keeps (join words matrix area c) x = Both x (promised (join words matrix area c)
 Keeps (read-through words matrix tokens area) x = Both x (promised (read-through words matrix tokens area))
 Keeps (report words matrix area out) x = Both x (promised (report words matrix area out))
 Keeps (parse words tokens area out) x = AllThree x (promised (parse words tokens area out))
+Keeps (entry-range entries e count) x = Both x (promised (entry-range entries e count))
 Keeps (entry-tokens entries e tokens place) x = Both x (promised (entry-tokens entries e tokens place))
 
 -- the number of the answer; a call that refuses nothing has 0
@@ -132,17 +132,18 @@ number_for (check-symbols words) = answer_number (check_symbols words)
 number_for (check-words words) = answer_number (check_words words)
 number_for (body-of words r) = 0
 number_for (load words bytes) = answer_number (load_answer words (length bytes))
-number_for (left-set words k) = set_number (left_set_answer words k)
-number_for (right-set words k) = set_number (right_set_answer words k)
+number_for (left-set words k) = answer_number (left_set_answer words k)
+number_for (right-set words k) = answer_number (right_set_answer words k)
 number_for (grammar-in-shape words matrix) = 0
 number_for (in-shape words matrix area) = 0
 number_for (start words matrix tokens cuts area) = answer_number (start_answer words matrix tokens cuts (length area))
 number_for (step words matrix area c) = answer_number (step_answer words matrix area c)
-number_for (run words matrix area c budget) = run_number (run_answer words matrix area c budget)
+number_for (run words matrix area c budget) = answer_number (run_answer words matrix area c budget)
 number_for (join words matrix area c) = answer_number (join_answer words matrix area c)
 number_for (read-through words matrix tokens area) = answer_number (read_answer words matrix tokens (length area))
-number_for (report words matrix area out) = report_number (report_answer words matrix area (length out))
-number_for (parse words tokens area out) = report_number (parse_answer words tokens (length area) (length out))
+number_for (report words matrix area out) = answer_number (report_answer words matrix area (length out))
+number_for (parse words tokens area out) = answer_number (parse_answer words tokens (length area) (length out))
+number_for (entry-range entries e count) = 0
 number_for (entry-tokens entries e tokens place) = 0
 
 -- the numbers of its refusals, in the order of the checks
@@ -165,12 +166,13 @@ numbers_for (join words matrix area c) = 15 ∷ 12 ∷ 14 ∷ []
 numbers_for (read-through words matrix tokens area) = 15 ∷ 7 ∷ 8 ∷ 9 ∷ 11 ∷ []
 numbers_for (report words matrix area out) = 15 ∷ 16 ∷ 17 ∷ 18 ∷ 19 ∷ 20 ∷ 11 ∷ []
 numbers_for (parse words tokens area out) = 1 ∷ 2 ∷ 3 ∷ 4 ∷ 5 ∷ 6 ∷ 7 ∷ 8 ∷ 9 ∷ 11 ∷ 17 ∷ 18 ∷ 19 ∷ 20 ∷ 11 ∷ []
+numbers_for (entry-range entries e count) = []
 numbers_for (entry-tokens entries e tokens place) = []
 
 -- how many words of a report run are written: three an entry, none on a refusal
 abbrev pub words_of : ReportAnswer → ℕ
-words_of (Report entries moves) = 3 * entries
-words_of (Refused refusal) = 0
+words_of (Ok given) = 3 * given.entries
+words_of (Err refusal) = 0
 
 -- a run that a call may write: what it held, what it holds when the call ends, and how many words or bytes at its front the call counts
 pub record Written : Type 0 where
@@ -201,4 +203,5 @@ written (report words matrix area out) =
     record { before = out; after = report_out words matrix area out; counted = words_of (report_answer words matrix area (length out)) } ∷ []
 written (parse words tokens area out) =
     record { before = out; after = parse_out words tokens (length area) out; counted = words_of (parse_answer words tokens (length area) (length out)) } ∷ []
+written (entry-range entries e count) = []
 written (entry-tokens entries e tokens place) = []

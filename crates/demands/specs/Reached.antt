@@ -10,7 +10,7 @@
 use Rattle.std.specs.Prelude.{◌≡◌, List, [], ◌∷◌, ℕ, ◌≤◌}
 use Rattle.std.proofs.Common.{arith}
 use Rattle.refusals.specs.declared.Refusal.TheVariants.{Unfinished}
-use Rattle.refusals.specs.Refusals.{number_of, report_number}
+use Rattle.refusals.specs.Refusals.{number_of, answer_number}
 use Rattle.machine.specs.Moves.{Stuck, no_relation, no_rule, not_axiom, side_by_side}
 use Rattle.machine.specs.States.{Outcome, refused_row, refusal_of}
 use Rattle.machine.specs.Answers.{outcome_answer}
@@ -18,10 +18,10 @@ use Rattle.demands.specs.Calls.{Call, call_number, call_area}
 
 -- the numbers of a row's outcome: 16, 17 to 20, and 0 or 11 for a report
 pub data OutcomeNumber (o : Outcome) (room : ℕ) : Type 0 where
-  number_16 : o ≡ refused_row Unfinished → report_number (outcome_answer o room) ≡ 16 → OutcomeNumber o room
-  number_stuck : 17 ≤ report_number (outcome_answer o room) → report_number (outcome_answer o room) ≤ 20 → OutcomeNumber o room
-  number_11 : report_number (outcome_answer o room) ≡ 11 → OutcomeNumber o room
-  number_0 : report_number (outcome_answer o room) ≡ 0 → OutcomeNumber o room
+  number_16 : o ≡ refused_row Unfinished → answer_number (outcome_answer o room) ≡ 16 → OutcomeNumber o room
+  number_stuck : 17 ≤ answer_number (outcome_answer o room) → answer_number (outcome_answer o room) ≤ 20 → OutcomeNumber o room
+  number_11 : answer_number (outcome_answer o room) ≡ 11 → OutcomeNumber o room
+  number_0 : answer_number (outcome_answer o room) ≡ 0 → OutcomeNumber o room
 
 pub at-17-20 : (why : Stuck) (place : ℕ) → (17 ≤ number_of (refusal_of why place)) × (number_of (refusal_of why place) ≤ 20)
 at-17-20 no_relation place = (omega arith, omega arith)

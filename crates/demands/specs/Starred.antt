@@ -6,16 +6,11 @@
 --
 -- Main definitions: Question, Reply, reply_to, cases.
 -- What is proved of them: proofs' Starred.
-use Rattle.std.specs.Prelude.{◌≡◌, ℕ, ◌*◌, take}
+use Rattle.std.specs.Prelude.{◌≡◌, ℕ, ◌*◌, take, Ok, Err}
 use mathlib.Core.List.{List, [], ◌∷◌}
 use Rattle.std.proofs.Math.Option.{Option, none, some}
 use Rattle.std.proofs.Math.ListN.{length}
-use Rattle.refusals.specs.declared.Answer.{Answer}
-use Rattle.refusals.specs.declared.Answer.TheVariants as answer
-use Rattle.refusals.specs.declared.SetAnswer.{SetAnswer}
-use Rattle.refusals.specs.declared.SetAnswer.TheVariants as set
-use Rattle.refusals.specs.declared.ReportAnswer.{ReportAnswer}
-use Rattle.refusals.specs.declared.ReportAnswer.TheVariants as report
+use Rattle.refusals.specs.Answers.{Answer, SetAnswer, ReportAnswer}
 use Rattle.refusals.specs.Refusals.{number_of, value_of}
 use Rattle.language.specs.CheckSamples.{words_k}
 use Rattle.language.specs.Loads.{load_answer, load_bytes, left_set_answer, right_set_answer}
@@ -57,17 +52,17 @@ pub data Reply : Type 0 where
 -- ---- the definitions that the contracts cite, asked so
 
 abbrev pub of_set : SetAnswer → Reply
-of_set (set.Terminals mask size) = terminals mask size
-of_set (set.Refused r) = refusal (number_of r) (value_of r)
+of_set (Ok set) = terminals set.mask set.size
+of_set (Err r) = refusal (number_of r) (value_of r)
 
 abbrev pub of_answer : Answer → Reply
-of_answer answer.Done = success
-of_answer (answer.Refused r) = refusal (number_of r) (value_of r)
+of_answer (Ok _) = success
+of_answer (Err r) = refusal (number_of r) (value_of r)
 
 -- a report's answer, with the words then written
 abbrev pub of_report : ReportAnswer → List ℕ → Reply
-of_report (report.Report entries moves) out = report_of (take (3 * entries) out) moves
-of_report (report.Refused r) out = refusal (number_of r) (value_of r)
+of_report (Ok report) out = report_of (take (3 * report.entries) out) report.moves
+of_report (Err r) out = refusal (number_of r) (value_of r)
 
 -- the matrix that load leaves
 abbrev pub bytes_of : List ℕ → List ℕ

@@ -9,7 +9,7 @@ mod answers;
 ghost use Rattle.std.specs.Prelude.{◌≡◌, length};
 ghost use Rattle.language.specs.Checks.{check_symbols, check_words};
 ghost use Rattle.language.specs.Loads.{load_answer, load_bytes, left_set_answer, right_set_answer};
-ghost use Rattle.refusals.specs.Refusals.{answer_number, answer_value, set_number, set_value, set_size, run_number, run_value, report_number, report_value, report_moves};
+ghost use Rattle.refusals.specs.Refusals.{answer_number, answer_value, set_value, set_size, run_value, report_value, report_moves};
 ghost use Rattle.area.specs.Shape.{in_shape};
 ghost use Rattle.start.specs.Start.{start_answer, start_area};
 ghost use Rattle.moving.specs.Calls.{step_answer, step_area, run_answer, run_area, join_answer, join_area};
@@ -24,7 +24,7 @@ pub extern "C" fn grugalash_check_symbols(words: &[u16], value: &mut u32) -> u32
 {
     let answer = words::check_symbols(words);
     *value = answers::value(answer);
-    answers::number(answer)
+    answers::number(&answer)
 }
 
 // `words::check_words`.
@@ -35,7 +35,7 @@ pub extern "C" fn grugalash_check_words(words: &[u16], value: &mut u32) -> u32
 {
     let answer = words::check_words(words);
     *value = answers::value(answer);
-    answers::number(answer)
+    answers::number(&answer)
 }
 
 // `table::load`.
@@ -47,7 +47,7 @@ pub extern "C" fn grugalash_load(words: &[u16], matrix: &mut [u8], value: &mut u
 {
     let answer = table::load(words, matrix);
     *value = answers::value(answer);
-    answers::number(answer)
+    answers::number(&answer)
 }
 
 // `table::left_set`.
@@ -58,14 +58,14 @@ pub extern "C" fn grugalash_left_set(
     mask: &mut u64,
     size: &mut u32,
 ) -> u32
-    ensures value { result ≡ set_number (left_set_answer words.now nonterminal) }
+    ensures value { result ≡ answer_number (left_set_answer words.now nonterminal) }
     ensures mask_after { mask.new ≡ set_value (left_set_answer words.now nonterminal) }
     ensures size_after { size.new ≡ set_size (left_set_answer words.now nonterminal) }
 {
     let answer = table::left_set(words, nonterminal);
     *mask = answers::set_value(answer);
     *size = answers::set_size(answer);
-    answers::set_number(answer)
+    answers::number(&answer)
 }
 
 // `table::right_set`.
@@ -76,14 +76,14 @@ pub extern "C" fn grugalash_right_set(
     mask: &mut u64,
     size: &mut u32,
 ) -> u32
-    ensures value { result ≡ set_number (right_set_answer words.now nonterminal) }
+    ensures value { result ≡ answer_number (right_set_answer words.now nonterminal) }
     ensures mask_after { mask.new ≡ set_value (right_set_answer words.now nonterminal) }
     ensures size_after { size.new ≡ set_size (right_set_answer words.now nonterminal) }
 {
     let answer = table::right_set(words, nonterminal);
     *mask = answers::set_value(answer);
     *size = answers::set_size(answer);
-    answers::set_number(answer)
+    answers::number(&answer)
 }
 
 // `area::in_shape`.
@@ -110,7 +110,7 @@ pub extern "C" fn grugalash_start(
 {
     let answer = start::start(words, matrix, tokens, cuts, area);
     *value = answers::value(answer);
-    answers::number(answer)
+    answers::number(&answer)
 }
 
 // `reader::step`.
@@ -128,7 +128,7 @@ pub extern "C" fn grugalash_step(
 {
     let answer = reader::step(words, matrix, area, chunk);
     *value = answers::value(answer);
-    answers::number(answer)
+    answers::number(&answer)
 }
 
 // `reader::run`.
@@ -141,13 +141,13 @@ pub extern "C" fn grugalash_run(
     budget: u32,
     value: &mut u32,
 ) -> u32
-    ensures value { result ≡ run_number (run_answer words.now matrix.now area.old chunk budget) }
+    ensures value { result ≡ answer_number (run_answer words.now matrix.now area.old chunk budget) }
     ensures value_after { value.new ≡ run_value (run_answer words.now matrix.now area.old chunk budget) }
     ensures area_after { area.new ≡ run_area words.now matrix.now area.old chunk budget }
 {
     let answer = reader::run(words, matrix, area, chunk, budget);
     *value = answers::run_value(answer);
-    answers::run_number(answer)
+    answers::number(&answer)
 }
 
 // `reader::join`.
@@ -165,7 +165,7 @@ pub extern "C" fn grugalash_join(
 {
     let answer = reader::join(words, matrix, area, chunk);
     *value = answers::value(answer);
-    answers::number(answer)
+    answers::number(&answer)
 }
 
 // `report::report`.
@@ -178,7 +178,7 @@ pub extern "C" fn grugalash_report(
     entries: &mut u32,
     moves: &mut u32,
 ) -> u32
-    ensures value { result ≡ report_number (report_answer words.now matrix.now area.now (length out.old)) }
+    ensures value { result ≡ answer_number (report_answer words.now matrix.now area.now (length out.old)) }
     ensures entries_after { entries.new ≡ report_value (report_answer words.now matrix.now area.now (length out.old)) }
     ensures moves_after { moves.new ≡ report_moves (report_answer words.now matrix.now area.now (length out.old)) }
     ensures out_after { out.new ≡ report_out words.now matrix.now area.now out.old }
@@ -186,7 +186,7 @@ pub extern "C" fn grugalash_report(
     let answer = report::report(words, matrix, area, out);
     *entries = answers::report_value(answer);
     *moves = answers::report_moves(answer);
-    answers::report_number(answer)
+    answers::number(&answer)
 }
 
 // `parse::parse`.
@@ -199,7 +199,7 @@ pub extern "C" fn grugalash_parse(
     entries: &mut u32,
     moves: &mut u32,
 ) -> u32
-    ensures value { result ≡ report_number (parse_answer words.now tokens.now (length area.old) (length out.old)) }
+    ensures value { result ≡ answer_number (parse_answer words.now tokens.now (length area.old) (length out.old)) }
     ensures entries_after { entries.new ≡ report_value (parse_answer words.now tokens.now (length area.old) (length out.old)) }
     ensures moves_after { moves.new ≡ report_moves (parse_answer words.now tokens.now (length area.old) (length out.old)) }
     ensures area_after { area.new ≡ parse_area words.now tokens.now area.old }
@@ -208,24 +208,7 @@ pub extern "C" fn grugalash_parse(
     let answer = parse::parse(words, tokens, area, out);
     *entries = answers::report_value(answer);
     *moves = answers::report_moves(answer);
-    answers::report_number(answer)
-}
-
-// Where the tokens of a report entry start in the token run: 0 for the part of no tokens.
-#[tactic(auto, unfolding(report::specs::ReportCall::entry_start))]
-fn entry_start(report: &[u16], entry: usize, count: usize) -> usize
-    ensures { result ≡ entry_start report.now entry count }
-{
-    if report.len() / 3 <= entry {
-        return 0;
-    }
-    let place = 3 * entry;
-    let first = report[place + 1] as usize;
-    let after = report[place + 2] as usize;
-    if (after < first) | (count < after) {
-        return 0;
-    }
-    first
+    answers::number(&answer)
 }
 
 // `report::entry_tokens`: where the part starts in the token run, and how many tokens it has.
@@ -239,7 +222,6 @@ pub extern "C" fn grugalash_entry_tokens(
     ensures value { result ≡ length (entry_tokens report.now entry tokens.now) }
     ensures first_after { first.new ≡ entry_start report.now entry (length tokens.now) }
 {
-    *first = entry_start(report, entry, tokens.len());
-    let part = report::entry_tokens(report, entry, tokens);
-    part.len()
+    *first = report::entry_range(report, entry, tokens.len()).start;
+    report::entry_tokens(report, entry, tokens).len()
 }

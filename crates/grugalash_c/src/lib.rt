@@ -5,7 +5,7 @@
 ghost use Rattle.std.specs.Prelude.{◌≡◌, length};
 ghost use Rattle.language.specs.Checks.{check_symbols, check_words};
 ghost use Rattle.language.specs.Loads.{load_answer, load_bytes, left_set_answer, right_set_answer};
-ghost use Rattle.refusals.specs.Refusals.{answer_number, answer_value, set_number, set_value, set_size, run_number, run_value, report_number, report_value, report_moves};
+ghost use Rattle.refusals.specs.Refusals.{answer_number, answer_value, set_value, set_size, run_value, report_value, report_moves};
 ghost use Rattle.area.specs.Shape.{in_shape};
 ghost use Rattle.start.specs.Start.{start_answer, start_area};
 ghost use Rattle.moving.specs.Calls.{step_answer, step_area, run_answer, run_area, join_answer, join_area};
@@ -44,7 +44,7 @@ pub extern "C" fn grugalash_left_set(
     mask: &mut u64,
     size: &mut u32,
 ) -> u32
-    ensures value { result ≡ set_number (left_set_answer words.now nonterminal) }
+    ensures value { result ≡ answer_number (left_set_answer words.now nonterminal) }
     ensures mask_after { mask.new ≡ set_value (left_set_answer words.now nonterminal) }
     ensures size_after { size.new ≡ set_size (left_set_answer words.now nonterminal) }
 {
@@ -58,7 +58,7 @@ pub extern "C" fn grugalash_right_set(
     mask: &mut u64,
     size: &mut u32,
 ) -> u32
-    ensures value { result ≡ set_number (right_set_answer words.now nonterminal) }
+    ensures value { result ≡ answer_number (right_set_answer words.now nonterminal) }
     ensures mask_after { mask.new ≡ set_value (right_set_answer words.now nonterminal) }
     ensures size_after { size.new ≡ set_size (right_set_answer words.now nonterminal) }
 {
@@ -112,7 +112,7 @@ pub extern "C" fn grugalash_run(
     budget: u32,
     value: &mut u32,
 ) -> u32
-    ensures value { result ≡ run_number (run_answer words.now matrix.now area.old chunk budget) }
+    ensures value { result ≡ answer_number (run_answer words.now matrix.now area.old chunk budget) }
     ensures value_after { value.new ≡ run_value (run_answer words.now matrix.now area.old chunk budget) }
     ensures area_after { area.new ≡ run_area words.now matrix.now area.old chunk budget }
 {
@@ -143,7 +143,7 @@ pub extern "C" fn grugalash_report(
     entries: &mut u32,
     moves: &mut u32,
 ) -> u32
-    ensures value { result ≡ report_number (report_answer words.now matrix.now area.now (length out.old)) }
+    ensures value { result ≡ answer_number (report_answer words.now matrix.now area.now (length out.old)) }
     ensures entries_after { entries.new ≡ report_value (report_answer words.now matrix.now area.now (length out.old)) }
     ensures moves_after { moves.new ≡ report_moves (report_answer words.now matrix.now area.now (length out.old)) }
     ensures out_after { out.new ≡ report_out words.now matrix.now area.now out.old }
@@ -160,7 +160,7 @@ pub extern "C" fn grugalash_parse(
     entries: &mut u32,
     moves: &mut u32,
 ) -> u32
-    ensures value { result ≡ report_number (parse_answer words.now tokens.now (length area.old) (length out.old)) }
+    ensures value { result ≡ answer_number (parse_answer words.now tokens.now (length area.old) (length out.old)) }
     ensures entries_after { entries.new ≡ report_value (parse_answer words.now tokens.now (length area.old) (length out.old)) }
     ensures moves_after { moves.new ≡ report_moves (parse_answer words.now tokens.now (length area.old) (length out.old)) }
     ensures area_after { area.new ≡ parse_area words.now tokens.now area.old }

@@ -1,11 +1,10 @@
 -- What is proved of specs' Checks. The checks of grammar words in document 01's order, each over the whole grammar before the next, and when exactly each is given.
 --
 -- Main statements: head-given, contents-given, symbol-given, form-given, twin-given, words-pass; words-told (no other refusal is given).
-use Rattle.std.specs.Prelude.{◌≡◌, ◌↔◌, List, ℕ}
+use Rattle.std.specs.Prelude.{◌≡◌, ◌↔◌, List, ℕ, Ok, Err}
 use Rattle.laws.specs.Least.{Least, Nowhere}
 use Rattle.refusals.specs.declared.Refusal.TheVariants.{Head, Contents, Symbol, Form, Twin}
-use Rattle.refusals.specs.declared.Answer.{Answer}
-use Rattle.refusals.specs.declared.Answer.TheVariants.{Done, Refused}
+use Rattle.refusals.specs.Answers.{Answer}
 use Rattle.language.specs.Words.{grammar_of}
 use Rattle.language.specs.Stages.{Ready, ready, finding, Given, passes_all, fails, passes}
 use Rattle.language.proofs.Stages.{given-exactly}
@@ -45,52 +44,52 @@ module _ (words : List ℕ) where
   words-told answer e = told ((by answer).0 e)
 
   -- 1 is given at v exactly when v is the first word that is absent or out of its range
-  pub head-given : (v : ℕ) → (check_words words ≡ Refused (Head v)) ↔ Least (BadHead words) v
-  head-given v = (λ e. out (words-told (Refused (Head v)) e), λ l. (by (Refused (Head v))).1 (fails l))
+  pub head-given : (v : ℕ) → (check_words words ≡ Err (Head v)) ↔ Least (BadHead words) v
+  head-given v = (λ e. out (words-told (Err (Head v)) e), λ l. (by (Err (Head v))).1 (fails l))
     where
-      out : Told words (Refused (Head v)) → Least (BadHead words) v
+      out : Told words (Err (Head v)) → Least (BadHead words) v
       out (told_head l) = l
 
   -- 2 is given at v exactly when 1 is not, and v is the first wrong entry, or R where the last body is wrong
-  pub contents-given : (v : ℕ) → (check_words words ≡ Refused (Contents v)) ↔ (Nowhere (BadHead words) × Least (BadContents words) v)
-  contents-given v = (λ e. out (words-told (Refused (Contents v)) e), λ l. (by (Refused (Contents v))).1 (passes l.0 (fails l.1)))
+  pub contents-given : (v : ℕ) → (check_words words ≡ Err (Contents v)) ↔ (Nowhere (BadHead words) × Least (BadContents words) v)
+  contents-given v = (λ e. out (words-told (Err (Contents v)) e), λ l. (by (Err (Contents v))).1 (passes l.0 (fails l.1)))
     where
-      out : Told words (Refused (Contents v)) → Nowhere (BadHead words) × Least (BadContents words) v
+      out : Told words (Err (Contents v)) → Nowhere (BadHead words) × Least (BadContents words) v
       out (told_contents n l) = (n, l)
 
   -- 3 is given at v exactly when 1 and 2 are not, and v is the place of the first wrong body word
-  pub symbol-given : (v : ℕ) → (check_words words ≡ Refused (Symbol v)) ↔ (Nowhere (BadHead words) × Nowhere (BadContents words) × Least (BadSymbol words) v)
-  symbol-given v = (λ e. out (words-told (Refused (Symbol v)) e), λ l. (by (Refused (Symbol v))).1 (passes l.0 (passes l.1 (fails l.2))))
+  pub symbol-given : (v : ℕ) → (check_words words ≡ Err (Symbol v)) ↔ (Nowhere (BadHead words) × Nowhere (BadContents words) × Least (BadSymbol words) v)
+  symbol-given v = (λ e. out (words-told (Err (Symbol v)) e), λ l. (by (Err (Symbol v))).1 (passes l.0 (passes l.1 (fails l.2))))
     where
-      out : Told words (Refused (Symbol v)) → Nowhere (BadHead words) × Nowhere (BadContents words) × Least (BadSymbol words) v
+      out : Told words (Err (Symbol v)) → Nowhere (BadHead words) × Nowhere (BadContents words) × Least (BadSymbol words) v
       out (told_symbol n m l) = (n, m, l)
 
   -- 4 is given at v exactly when 1 to 3 are not, and v is the first rule with two adjacent nonterminals or no terminal
-  pub form-given : (v : ℕ) → (check_words words ≡ Refused (Form v))
+  pub form-given : (v : ℕ) → (check_words words ≡ Err (Form v))
       ↔ (Nowhere (BadHead words) × Nowhere (BadContents words) × Nowhere (BadSymbol words) × Least (BadForm (grammar_of words)) v)
-  form-given v = (λ e. out (words-told (Refused (Form v)) e), λ l. (by (Refused (Form v))).1 (passes l.0 (passes l.1 (passes l.2 (fails l.3)))))
+  form-given v = (λ e. out (words-told (Err (Form v)) e), λ l. (by (Err (Form v))).1 (passes l.0 (passes l.1 (passes l.2 (fails l.3)))))
     where
-      out : Told words (Refused (Form v)) → Nowhere (BadHead words) × Nowhere (BadContents words) × Nowhere (BadSymbol words) × Least (BadForm (grammar_of words)) v
+      out : Told words (Err (Form v)) → Nowhere (BadHead words) × Nowhere (BadContents words) × Nowhere (BadSymbol words) × Least (BadForm (grammar_of words)) v
       out (told_form n m k l) = (n, m, k, l)
 
   -- 5 is given at v exactly when 1 to 4 are not, and v is the least rule with the right side of an earlier one
-  pub twin-given : (v : ℕ) → (check_words words ≡ Refused (Twin v))
+  pub twin-given : (v : ℕ) → (check_words words ≡ Err (Twin v))
       ↔ (Nowhere (BadHead words) × Nowhere (BadContents words) × Nowhere (BadSymbol words) × Nowhere (BadForm (grammar_of words)) × Least (BadTwin (grammar_of words)) v)
   twin-given v = (
-    λ e. out (words-told (Refused (Twin v)) e),
-    λ l. (by (Refused (Twin v))).1 (passes l.0 (passes l.1 (passes l.2 (passes l.3 (fails l.4))))),
+    λ e. out (words-told (Err (Twin v)) e),
+    λ l. (by (Err (Twin v))).1 (passes l.0 (passes l.1 (passes l.2 (passes l.3 (fails l.4))))),
   )
     where
-      out : Told words (Refused (Twin v))
+      out : Told words (Err (Twin v))
           → Nowhere (BadHead words) × Nowhere (BadContents words) × Nowhere (BadSymbol words) × Nowhere (BadForm (grammar_of words)) × Least (BadTwin (grammar_of words)) v
       out (told_twin n m k j l) = (n, m, k, j, l)
 
   -- the words pass exactly when none of the five conditions holds anywhere
-  pub words-pass : (check_words words ≡ Done) ↔ Passed words
+  pub words-pass : (check_words words ≡ Ok tt) ↔ Passed words
   words-pass = (
-    λ e. out (words-told Done e),
-    λ p. (by Done).1 (passes p.head (passes p.contents (passes p.symbols (passes p.forms (passes p.twins passes_all))))),
+    λ e. out (words-told (Ok tt) e),
+    λ p. (by (Ok tt)).1 (passes p.head (passes p.contents (passes p.symbols (passes p.forms (passes p.twins passes_all))))),
   )
     where
-      out : Told words Done → Passed words
+      out : Told words (Ok tt) → Passed words
       out (told_passed p) = p

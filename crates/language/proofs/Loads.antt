@@ -1,13 +1,12 @@
 -- What is proved of specs' Loads. Loading a grammar and asking a set: the answers, what is left in the lent bytes, and when exactly each refusal is given.
 --
 -- Main statements: conflict-given, load-room-given, accepted-exactly, no-nonterminal-given, set_given.
-use Rattle.std.specs.Prelude.{◌≡◌, refl, true, ◌↔◌, List, [], ◌∷◌, ℕ, ◌≤◌, ◌<◌, ltb, leb}
+use Rattle.std.specs.Prelude.{◌≡◌, refl, true, ◌↔◌, List, [], ◌∷◌, ℕ, ◌≤◌, ◌<◌, ltb, leb, Ok, Err}
 use Rattle.std.proofs.Common.{arith}
 use Rattle.laws.specs.Least.{Least, Nowhere, Finds, finds-none}
 use Rattle.laws.specs.Tests.{ltb-true, ltb-false, lt-ltb, leb-true, leb-false, le-leb, false-unless}
 use Rattle.refusals.specs.declared.Refusal.TheVariants.{Conflict, NoRoom, NoNonterminal}
-use Rattle.refusals.specs.declared.Answer.{Answer}
-use Rattle.refusals.specs.declared.Answer.TheVariants.{Done, Refused}
+use Rattle.refusals.specs.Answers.{Answer}
 use Rattle.language.specs.Words.{count_n, grammar_of}
 use Rattle.language.specs.Stages.{stages_of, all_asked, Ready, ready, finding, Given, passes_all, fails, passes}
 use Rattle.language.proofs.Stages.{none_left}
@@ -48,11 +47,11 @@ module _ (words : List ℕ) (room : ℕ) where
   passed_then {answer} p g = (by answer).1 (goes_on ((words-pass words).1 p) g)
 
   -- 6 is given at v exactly when 1 to 5 are not, and v is the least 64a + b of a pair a, b with two relations
-  pub conflict-given : (v : ℕ) → (load_answer words room ≡ Refused (Conflict v)) ↔ (Passed words × Least (ConflictAt (grammar_of words)) v)
-  conflict-given v = (λ e. out ((by (Refused (Conflict v))).0 e), λ l. passed_then l.0 (fails l.1))
+  pub conflict-given : (v : ℕ) → (load_answer words room ≡ Err (Conflict v)) ↔ (Passed words × Least (ConflictAt (grammar_of words)) v)
+  conflict-given v = (λ e. out ((by (Err (Conflict v))).0 e), λ l. passed_then l.0 (fails l.1))
     where
-      out : {v : ℕ} → Follows input (check_words words) (conflict_condition ∷ room_condition ∷ []) (Refused (Conflict v)) → Passed words × Least (ConflictAt (grammar_of words)) v
-      out {v} (stands e) = elim (words-told words (Refused (Conflict v)) e) [ ]
+      out : {v : ℕ} → Follows input (check_words words) (conflict_condition ∷ room_condition ∷ []) (Err (Conflict v)) → Passed words × Least (ConflictAt (grammar_of words)) v
+      out {v} (stands e) = elim (words-told words (Err (Conflict v)) e) [ ]
       out (goes_on d (fails l)) = ((words-pass words).0 d, l)
       out (goes_on d (passes n (passes m g))) = none_left input g
 
@@ -67,26 +66,26 @@ module _ (words : List ℕ) (room : ℕ) where
   free-nowhere f v c = f _ _ c.1
 
   -- 11 is given, with value 4,096, exactly when the words are accepted and the run has fewer bytes
-  pub load-room-given : (v : ℕ) → (load_answer words room ≡ Refused (NoRoom v)) ↔ (Accepted words × (room < 4096) × (v ≡ 4096))
-  load-room-given v = (λ e. out ((by (Refused (NoRoom v))).0 e), λ l. back l.0 l.1 l.2)
+  pub load-room-given : (v : ℕ) → (load_answer words room ≡ Err (NoRoom v)) ↔ (Accepted words × (room < 4096) × (v ≡ 4096))
+  load-room-given v = (λ e. out ((by (Err (NoRoom v))).0 e), λ l. back l.0 l.1 l.2)
     where
       short : {u : ℕ} → NoRoomForMatrix input u → (room < 4096) × (u ≡ 4096)
       short (too_short r q) = (r, q)
 
-      out : {v : ℕ} → Follows input (check_words words) (conflict_condition ∷ room_condition ∷ []) (Refused (NoRoom v)) → Accepted words × (room < 4096) × (v ≡ 4096)
-      out {v} (stands e) = elim (words-told words (Refused (NoRoom v)) e) [ ]
+      out : {v : ℕ} → Follows input (check_words words) (conflict_condition ∷ room_condition ∷ []) (Err (NoRoom v)) → Accepted words × (room < 4096) × (v ≡ 4096)
+      out {v} (stands e) = elim (words-told words (Err (NoRoom v)) e) [ ]
       out (goes_on d (passes h (fails l))) =
           let p = (words-pass words).0 d in
           (record { passed = p; free = no-conflict p h }, (short l.holds).0, (short l.holds).1)
       out (goes_on d (passes h (passes q g))) = none_left input g
 
-      back : Accepted words → room < 4096 → v ≡ 4096 → load_answer words room ≡ Refused (NoRoom v)
+      back : Accepted words → room < 4096 → v ≡ 4096 → load_answer words room ≡ Err (NoRoom v)
       back a r q =
           passed_then a.passed (passes (free-nowhere a.free) (fails (record { holds = too_short r q; least = λ u l n. let z = (short n).1 in omega arith })))
 
   -- load succeeds exactly when the words are accepted and the run has 4,096 bytes or more
-  pub accepted-exactly : (load_answer words room ≡ Done) ↔ (Accepted words × (4096 ≤ room))
-  accepted-exactly = (λ e. out ((by Done).0 e), λ l. passed_then l.0.passed (passes (free-nowhere l.0.free) (passes (none-short l.1) passes_all)))
+  pub accepted-exactly : (load_answer words room ≡ Ok tt) ↔ (Accepted words × (4096 ≤ room))
+  accepted-exactly = (λ e. out ((by (Ok tt)).0 e), λ l. passed_then l.0.passed (passes (free-nowhere l.0.free) (passes (none-short l.1) passes_all)))
     where
       long : Nowhere (NoRoomForMatrix input) → 4096 ≤ room
       long n = ltb-false room 4096 (false-unless (ltb room 4096) (λ e. n 4096 (too_short (ltb-true room 4096 e) refl)))
@@ -94,7 +93,7 @@ module _ (words : List ℕ) (room : ℕ) where
       none-short : 4096 ≤ room → (v : ℕ) → NoRoomForMatrix input v → ⊥
       none-short h v (too_short r q) = omega arith
 
-      out : Follows input (check_words words) (conflict_condition ∷ room_condition ∷ []) Done → Accepted words × (4096 ≤ room)
+      out : Follows input (check_words words) (conflict_condition ∷ room_condition ∷ []) (Ok tt) → Accepted words × (4096 ≤ room)
       out (goes_on d (passes h (passes q passes_all))) =
           let p = (words-pass words).0 d in
           (record { passed = p; free = no-conflict p h }, long q)
@@ -122,24 +121,24 @@ module _ (words : List ℕ) (k : ℕ) where
   set-by answer = rw set-after-words (follows-exactly asking (nonterminal_condition ∷ []) (check_words words) (λ d. finding (nonterminal-finds asking) (λ n. ready)) answer)
 
   -- 21 is given exactly when 1 to 5 are not, and the number is N or above
-  pub no-nonterminal-given : (set_checked words k ≡ Refused NoNonterminal) ↔ (Passed words × (count_n words ≤ k))
-  no-nonterminal-given = (λ e. out ((set-by (Refused NoNonterminal)).0 e), λ l. back l.0 l.1)
+  pub no-nonterminal-given : (set_checked words k ≡ Err NoNonterminal) ↔ (Passed words × (count_n words ≤ k))
+  no-nonterminal-given = (λ e. out ((set-by (Err NoNonterminal)).0 e), λ l. back l.0 l.1)
     where
       past : {v : ℕ} → NoSuchNonterminal asking v → count_n words ≤ k
       past (past-the-last h q) = h
 
-      out : Follows asking (check_words words) (nonterminal_condition ∷ []) (Refused NoNonterminal) → Passed words × (count_n words ≤ k)
-      out (stands e) = elim (words-told words (Refused NoNonterminal) e) [ ]
+      out : Follows asking (check_words words) (nonterminal_condition ∷ []) (Err NoNonterminal) → Passed words × (count_n words ≤ k)
+      out (stands e) = elim (words-told words (Err NoNonterminal) e) [ ]
       out (goes_on d (fails l)) = ((words-pass words).0 d, past l.holds)
       out (goes_on d (passes n g)) = none_left asking g
 
-      back : Passed words → count_n words ≤ k → set_checked words k ≡ Refused NoNonterminal
+      back : Passed words → count_n words ≤ k → set_checked words k ≡ Err NoNonterminal
       back p h =
-          (set-by (Refused NoNonterminal)).1 (goes_on ((words-pass words).1 p) (fails {v = 0} (record { holds = past-the-last h refl; least = λ u l n. omega arith })))
+          (set-by (Err NoNonterminal)).1 (goes_on ((words-pass words).1 p) (fails {v = 0} (record { holds = past-the-last h refl; least = λ u l n. omega arith })))
 
   -- a set is given exactly when 1 to 5 are not, and the number is below N
-  pub set_given : (set_checked words k ≡ Done) ↔ (Passed words × (k < count_n words))
-  set_given = (λ e. out ((set-by Done).0 e), λ l. (set-by Done).1 (goes_on ((words-pass words).1 l.0) (passes (none-past l.1) passes_all)))
+  pub set_given : (set_checked words k ≡ Ok tt) ↔ (Passed words × (k < count_n words))
+  set_given = (λ e. out ((set-by (Ok tt)).0 e), λ l. (set-by (Ok tt)).1 (goes_on ((words-pass words).1 l.0) (passes (none-past l.1) passes_all)))
     where
       low : Nowhere (NoSuchNonterminal asking) → k < count_n words
       low n = leb-false (count_n words) k (false-unless (leb (count_n words) k) (λ e. n 0 (past-the-last (leb-true (count_n words) k e) refl)))
@@ -147,5 +146,5 @@ module _ (words : List ℕ) (k : ℕ) where
       none-past : k < count_n words → (v : ℕ) → NoSuchNonterminal asking v → ⊥
       none-past h v (past-the-last l q) = omega arith
 
-      out : Follows asking (check_words words) (nonterminal_condition ∷ []) Done → Passed words × (k < count_n words)
+      out : Follows asking (check_words words) (nonterminal_condition ∷ []) (Ok tt) → Passed words × (k < count_n words)
       out (goes_on d (passes h passes_all)) = ((words-pass words).0 d, low h)

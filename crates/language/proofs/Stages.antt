@@ -1,14 +1,13 @@
 -- What is proved of specs' Stages. Checks made one after another, each over the whole input before the next: the first that fails refuses.
 --
 -- Main statements: given-exactly, follows-exactly, failing-finds.
-use Rattle.std.specs.Prelude.{◌≡◌, refl, Bool, true, false, ◌↔◌, List, [], ◌∷◌, ◌++◌, ℕ}
+use Rattle.std.specs.Prelude.{◌≡◌, refl, Bool, true, false, ◌↔◌, List, [], ◌∷◌, ◌++◌, ℕ, Ok, Err}
 use Rattle.std.proofs.Common.{sym, ap, ◌∙◌, arith}
 use Rattle.std.proofs.lemmas.Bool.{false≢true}
 use Rattle.std.proofs.Math.Option.{Option, none, some}
 use Rattle.laws.specs.Least.{Nowhere, Finds, nowhere, least, least-once}
 use Rattle.refusals.specs.declared.Refusal.{Refusal}
-use Rattle.refusals.specs.declared.Answer.{Answer}
-use Rattle.refusals.specs.declared.Answer.TheVariants.{Done, Refused}
+use Rattle.refusals.specs.Answers.{Answer}
 use Rattle.language.specs.Stages.{Condition, Follows, Given, Ready, Stage, checked, failing, fails, finding, goes_on, passes, passes_all}
 use Rattle.language.specs.Stages.{ready, refused_by, stages_of, stands, then_checked}
 
@@ -26,7 +25,7 @@ module _ {Input : Type 0} (input : Input) where
   -- no other answer is given
   pub given-once : {cs : List (Condition Input)} {a b : Answer} → Given input cs a → Given input cs b → a ≡ b
   given-once passes_all passes_all = refl
-  given-once (fails {c = c} l) (fails m) = ap (λ v. Refused (c.stage.refusal v)) (least-once l m)
+  given-once (fails {c = c} l) (fails m) = ap (λ v. Err (c.stage.refusal v)) (least-once l m)
   given-once (fails {v = v} l) (passes n h) = absurd (n v l.holds)
   given-once (passes n g) (fails {v = v} m) = absurd (n v m.holds)
   given-once (passes n g) (passes m h) = given-once g h
@@ -36,7 +35,7 @@ module _ {Input : Type 0} (input : Input) where
   given-exactly r answer = (λ e. rw e at (given r), λ g. given-once (given r) g)
 
   -- where no check is left, nothing is refused
-  pub none_left : {A : Type 0} {refusal : Refusal} → Given input [] (Refused refusal) → A
+  pub none_left : {A : Type 0} {refusal : Refusal} → Given input [] (Err refusal) → A
   none_left g = elim g [ ]
 
 pub checked-append : {Input : Type 0} (first second : List (Stage Input)) (input : Input)
@@ -50,13 +49,13 @@ checked-append (stage ∷ first) second input = go (stage.fails_at input) (check
     go (some v) ih = refl
 
 module _ {Input : Type 0} (input : Input) (later : List (Condition Input)) where
-  pub follows-exactly : (first : Answer) → (first ≡ Done → Ready input later) → (answer : Answer)
+  pub follows-exactly : (first : Answer) → (first ≡ Ok tt → Ready input later) → (answer : Answer)
       → (then_checked first (stages_of later) input ≡ answer) ↔ Follows input first later answer
   follows-exactly first r answer = (λ e. to first refl e, from answer)
     where
       to : (a : Answer) → first ≡ a → then_checked a (stages_of later) input ≡ answer → Follows input first later answer
-      to Done q e = goes_on q ((given-exactly input (r q) answer).0 e)
-      to (Refused refusal) q e = rw (sym e) (stands q)
+      to (Ok _) q e = goes_on q ((given-exactly input (r q) answer).0 e)
+      to (Err refusal) q e = rw (sym e) (stands q)
 
       from : (a : Answer) → Follows input first later a → then_checked first (stages_of later) input ≡ a
       from a (stands q) = ap (λ (k : Answer). then_checked k (stages_of later) input) q

@@ -1,6 +1,6 @@
 // The answer of `rows` as bytes: lines of decimal numbers in a lent run of bytes. Document 01, "Sample rows".
 // Each line goes to a place of the run; the answer is the place after it, or that place itself where the line has no room, and then
-// nothing is written.
+// nothing is written. The run and the place stay two arguments: the promises `written` and `end_after` of these calls name both.
 #![tactic(auto)]
 
 mod writing;

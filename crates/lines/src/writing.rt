@@ -1,38 +1,81 @@
-// A line of a word and numbers, as bytes: measured, and then put where it has room. Document 01, "Sample rows".
-ghost use Rattle.std.specs.Prelude.{◌≡◌, ◌+◌, ◌≤◌, length, drop};
-ghost use Rattle.std.proofs.lemmas.List.Edits.{sets};
+// A line of a word and numbers, as bytes: made in a buffer of its own, and then put where it has room. Document 01, "Sample rows".
+ghost use Rattle.std.specs.Prelude.{◌≡◌, ℕ, ◌+◌, ◌<◌, ◌≤◌, List, [], ◌∷◌, ◌++◌, length, take, drop};
 ghost use Rattle.laws.specs.Decimals.{decimal};
 ghost use Rattle.lines.specs.AnswerLines.{separator, spaced, answer_line, written, end_after};
 
-const LINE_FEED: u8 = 10;
+use std::marker::Model;
 
-const SPACE: u8 = 32;
-
-const ZERO: u8 = 48;
-
-// How many digits a number has.
-fn digits(value: u32) -> usize
-    ensures { result ≡ length (decimal value) }
-{
-    if value < 10 {
-        return 1;
-    }
-    digits(value / 10) + 1
+// A line as far as it has been made, in fixed memory: a word of at most 8 bytes and 8 numbers, each of at most ten digits and the byte after them,
+// have room.
+#[derive(Drop)]
+struct Line {
+    bytes: [u8; 96],
+    length: usize,
 }
 
-// The digits of a number, from place `at` on; the place after them.
-fn put_digits(out: &mut [u8], at: usize, value: u32) -> usize
-    requires { at + length (decimal value) ≤ length out.old }
-    ensures value { result ≡ at + length (decimal value) }
-    ensures out_after { out.new ≡ sets out.old at (decimal value) }
-{
-    if value < 10 {
-        out[at] = ZERO + (value as u8);
-        return at + 1;
+// Clauses see the bytes that have been put.
+impl Model for Line {
+    ghost Value = { List ℕ };
+
+    ghost view = { λ line. take line.length line.bytes };
+
+    ghost invariant = { λ line. line.length ≤ 96 };
+}
+
+impl Line {
+    fn new() -> Line
+        ensures { result ≡ [] }
+    {
+        Line {
+            bytes: [0; 96],
+            length: 0,
+        }
     }
-    let last = put_digits(out, at, value / 10);
-    out[last] = ZERO + ((value % 10) as u8);
-    last + 1
+
+    fn as_bytes(&self) -> &[u8]
+        ensures { result.now ≡ self.now }
+    {
+        &self.bytes[..self.length]
+    }
+
+    fn push(&mut self, byte: u8)
+        requires { length self.old < 96 }
+        ensures { self.new ≡ self.old ++ byte ∷ [] }
+    {
+        self.bytes[self.length] = byte;
+        self.length += 1;
+    }
+
+    fn push_bytes(&mut self, bytes: &[u8])
+        requires { length self.old + length bytes.now ≤ 96 }
+        ensures { self.new ≡ self.old ++ bytes.now }
+    {
+        let end = self.length + bytes.len();
+        self.bytes[self.length..end].copy_from_slice(bytes);
+        self.length = end;
+    }
+
+    // The digits of a number. std's `write!` makes them too, but promises them of an `Ok` alone, and `put_line` promises a line wherever it has room.
+    fn push_digits(&mut self, value: u32)
+        requires { length self.old + length (decimal value) ≤ 96 }
+        ensures { self.new ≡ self.old ++ decimal value }
+    {
+        if 10 <= value {
+            self.push_digits(value / 10);
+        }
+        self.push(b'0' + (value % 10) as u8);
+    }
+
+    // Numbers parted by spaces, and the line feed.
+    fn push_numbers(&mut self, numbers: &[u32])
+        requires { length self.old + length (spaced numbers.now) ≤ 96 }
+        ensures { self.new ≡ self.old ++ spaced numbers.now }
+    {
+        for (i, number) in numbers.iter().enumerate() {
+            self.push_digits(*number);
+            self.push(separator(numbers, i + 1));
+        }
+    }
 }
 
 // What stands after a number: a space before the next, a line feed after the last.
@@ -40,55 +83,24 @@ fn separator(numbers: &[u32], next: usize) -> u8
     ensures { result ≡ separator (drop next numbers.now) }
 {
     if next < numbers.len() {
-        return SPACE;
+        return b' ';
     }
-    LINE_FEED
+    b'\n'
 }
 
-// Numbers parted by spaces, and the line feed.
-fn put_numbers(out: &mut [u8], at: usize, numbers: &[u32]) -> usize
-    requires { at + length (spaced numbers.now) ≤ length out.old }
-    ensures value { result ≡ at + length (spaced numbers.now) }
-    ensures out_after { out.new ≡ sets out.old at (spaced numbers.now) }
-{
-    let mut end = at;
-    let mut i: usize = 0;
-    while i < numbers.len() {
-        let after = put_digits(out, end, numbers[i]);
-        out[after] = separator(numbers, i + 1);
-        end = after + 1;
-        i += 1;
-    }
-    end
-}
-
-// Bytes as they are.
+// Bytes put from place `at` on, where they have room: the place after them, or `at`.
+#[tactic(auto, unfolding(crate::specs::AnswerLines::written, crate::specs::AnswerLines::end_after))]
 fn put_bytes(out: &mut [u8], at: usize, bytes: &[u8]) -> usize
-    requires { at + length bytes.now ≤ length out.old }
-    ensures value { result ≡ at + length bytes.now }
-    ensures out_after { out.new ≡ sets out.old at bytes.now }
+    ensures value { result ≡ end_after out.old at bytes.now }
+    ensures out_after { out.new ≡ written out.old at bytes.now }
 {
-    let mut i: usize = 0;
-    while i < bytes.len() {
-        out[at + i] = bytes[i];
-        i += 1;
+    match at.checked_add(bytes.len()) {
+        Some(end) if end <= out.len() => {
+            out[at..end].copy_from_slice(bytes);
+            end
+        }
+        _ => at,
     }
-    at + i
-}
-
-// How many bytes the numbers take.
-fn numbers_length(numbers: &[u32]) -> usize
-    requires { length numbers.now ≤ 8 }
-    ensures is { result ≡ length (spaced numbers.now) }
-    ensures small { result ≤ 88 }
-{
-    let mut sum: usize = 0;
-    let mut i: usize = 0;
-    while i < numbers.len() {
-        sum += digits(numbers[i]) + 1;
-        i += 1;
-    }
-    sum
 }
 
 // A line of a word and numbers.
@@ -97,13 +109,8 @@ pub(crate) fn put_line(out: &mut [u8], at: usize, word: &[u8], numbers: &[u32]) 
     ensures value { result ≡ end_after out.old at (answer_line word.now numbers.now) }
     ensures out_after { out.new ≡ written out.old at (answer_line word.now numbers.now) }
 {
-    let length = word.len() + numbers_length(numbers);
-    if out.len() < at {
-        return at;
-    }
-    if out.len() - at < length {
-        return at;
-    }
-    let end = put_bytes(out, at, word);
-    put_numbers(out, end, numbers)
+    let mut line = Line::new();
+    line.push_bytes(word);
+    line.push_numbers(numbers);
+    put_bytes(out, at, line.as_bytes())
 }

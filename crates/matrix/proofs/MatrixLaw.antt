@@ -2,15 +2,17 @@
 -- row, and of all.
 -- Rests on specs' GrammarShape, ByteTests and EndMarkOfShape, and on laws' Looks.
 --
--- Main statements: passed, refused; byte-here; short-fails, rows_more, part-fails, whole-told.
-use Rattle.std.proofs.Common.{◌≡◌, refl, sym, ap, ◌∙◌, ◌⊎◌, inl, inr, Bool, true, false, List, ℕ, ◌+◌, ◌*◌, ◌/◌, ◌%◌, ◌<◌, ◌≤◌, leb, ltb, length, get_or, arith}
+-- Main statements: passed, refused; all-fold, part-told; byte-here, row-told; short-fails, rows_more, part-fails, whole-told.
+use Rattle.std.specs.Prelude.{Ok, Err}
+use Rattle.std.proofs.Common.{◌≡◌, refl, sym, ap, ◌∙◌, ◌⊎◌, inl, inr, Bool, true, false, ◌&&◌, fold, List, [], ◌∷◌, ℕ, zero, suc, ◌-◌, ◌+◌, ◌*◌, ◌/◌, ◌%◌, ◌<◌, ◌≤◌, leb, ltb, length, get_or, take, drop, arith, length-drop, length-take-le}
+use Rattle.std.proofs.lemmas.List.{get_or-take, get_or-drop}
+use Rattle.std.specs.List.{list_all}
 use Rattle.std.proofs.Math.Decide.{dec_lt}
-use Rattle.laws.specs.Tests.{all, up_to, false-unless, not-both, same_test, lt-leb, le-leb, lt-ltb}
+use Rattle.laws.specs.Tests.{all, up_to, false-unless, not-both, same_test, and_both, both-and, lt-leb, le-leb, lt-ltb}
 use Rattle.laws.specs.Looks.{TellsAll}
 use Rattle.laws.specs.Picks.{pick, both-pick}
 use Rattle.refusals.specs.declared.Refusal.{Refusal}
-use Rattle.refusals.specs.declared.Answer.{Answer}
-use Rattle.refusals.specs.declared.Answer.TheVariants.{Done, Refused}
+use Rattle.refusals.specs.Answers.{Answer}
 use Rattle.language.specs.Words.{count_t}
 use Rattle.language.specs.Checks.{check_symbols}
 use Rattle.matrix.specs.GrammarShape.{is_done, byte_fits, rule_b, grammar_in_shape}
@@ -20,17 +22,51 @@ use Rattle.matrix.specs.EndMarkOfShape.{each-bytes, byte-fits}
 -- ---- (a)
 
 module _ (words matrix : List ℕ) where
-  pub passed : check_symbols words ≡ Done → grammar_in_shape words matrix ≡ rule_b (count_t words) matrix
+  pub passed : check_symbols words ≡ Ok tt → grammar_in_shape words matrix ≡ rule_b (count_t words) matrix
   unfolding grammar_in_shape
   passed e = ap (λ (answer : Answer). pick (is_done answer) (rule_b (count_t words) matrix) false) e
 
-  pub refused : {refusal : Refusal} → check_symbols words ≡ Refused refusal → grammar_in_shape words matrix ≡ false
+  pub refused : {refusal : Refusal} → check_symbols words ≡ Err refusal → grammar_in_shape words matrix ≡ false
   unfolding grammar_in_shape
   refused e = ap (λ (answer : Answer). pick (is_done answer) (rule_b (count_t words) matrix) false) e
 
 -- ---- (b), a run of bytes
 
+module _ {X : Type 0} (test : X → Bool) where
+  -- a look at all elements, after elements that all pass or not
+  pub all-fold : (before : Bool) (xs : List X) → fold (λ b x. b && test x) before xs ≡ (before && list_all test xs)
+  all-fold true [] = refl
+  all-fold false [] = refl
+  all-fold true (x ∷ xs) = all-fold (test x) xs
+  all-fold false (x ∷ xs) = all-fold false xs
+
 module _ (test : ℕ → Bool) where
+  all-at : (xs : List ℕ) → list_all test xs ≡ true → (v : ℕ) → v < length xs → test (get_or xs v 0) ≡ true
+  all-at [] e v h = absurd (omega arith)
+  all-at (x ∷ xs) e zero h = (and_both (test x) (list_all test xs) e).0
+  all-at (x ∷ xs) e (suc v) h = all-at xs (and_both (test x) (list_all test xs) e).1 v (omega arith)
+
+  at-all : (xs : List ℕ) → ((v : ℕ) → v < length xs → test (get_or xs v 0) ≡ true) → list_all test xs ≡ true
+  at-all [] p = refl
+  at-all (x ∷ xs) p = both-and (test x) (list_all test xs) (p 0 (omega arith)) (at-all xs (λ v h. p (suc v) (omega arith)))
+
+  -- a look at a part of a list
+  pub part-told : (xs : List ℕ) (from end : ℕ) → end ≤ length xs
+      → TellsAll (λ v. test (get_or xs v 0)) from end (list_all test (take (end - from) (drop from xs)))
+  part-told xs from end h = (
+    λ e v i j. let there = all-at part e (v - from) (omega (arith, long)) in
+        let at : from + (v - from) ≡ v = omega arith in
+        rw (get_or-take (end - from) (drop from xs) (v - from) 0 (omega arith), get_or-drop from xs (v - from) 0, at) at there,
+    λ p. at-all part (λ v i.
+        rw (get_or-take (end - from) (drop from xs) v 0 (omega (arith, long)), get_or-drop from xs v 0) (p (from + v) (omega arith) (omega (arith, long)))),
+  )
+    where
+      part : List ℕ
+      part = take (end - from) (drop from xs)
+
+      long : length part ≡ end - from
+      long = length-take-le (end - from) (drop from xs) (omega (arith, length-drop from xs))
+
   -- the places before mid pass, and from there on another test tells the same
   rest-told : (other : ℕ → Bool) (from mid end : ℕ) (r : Bool) → from ≤ mid → ((v : ℕ) → from ≤ v → v < mid → test v ≡ true)
       → ((v : ℕ) → mid ≤ v → v < end → other v ≡ test v) → TellsAll other mid end r → TellsAll test from end r
@@ -56,6 +92,12 @@ module _ (t : ℕ) (matrix : List ℕ) where
       go : (b : Bool) → zero_at matrix v ≡ pick b (zero_at matrix v) (zero_at matrix v)
       go true = refl
       go false = refl
+
+  -- a row, where the bytes up to t fit
+  pub row-told : (a : ℕ) (r : Bool) → t < 64 → ((v : ℕ) → 64 * a ≤ v → v < 64 * a + (t + 1) → byte_at t matrix v ≡ true)
+      → TellsAll (zero_at matrix) (64 * a + (t + 1)) (64 * a + 64) r → TellsAll (byte_at t matrix) (64 * a) (64 * a + 64) r
+  row-told a r h before zeros =
+      rest-told (byte_at t matrix) (zero_at matrix) (64 * a) (64 * a + (t + 1)) (64 * a + 64) r (omega arith) before (λ v i j. past v (inr (omega arith))) zeros
 
   -- ---- (b), every byte
 

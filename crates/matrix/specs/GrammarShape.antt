@@ -4,17 +4,16 @@
 -- Rests on language's Checks.
 --
 -- Main definitions: rule_a, byte_fits, rule_b, grammar_in_shape.
-use Rattle.std.specs.Prelude.{Bool, true, false, List, ℕ, ◌/◌, ◌%◌, leb, ltb, eqb, length, get_or}
+use Rattle.std.specs.Prelude.{Bool, true, false, List, ℕ, ◌/◌, ◌%◌, leb, ltb, eqb, length, get_or, Ok, Err}
 use Rattle.laws.specs.Tests.{all, up_to}
 use Rattle.laws.specs.Picks.{pick}
-use Rattle.refusals.specs.declared.Answer.{Answer}
-use Rattle.refusals.specs.declared.Answer.TheVariants.{Done, Refused}
+use Rattle.refusals.specs.Answers.{Answer}
 use Rattle.language.specs.Words.{count_t}
 use Rattle.language.specs.Checks.{check_symbols}
 
 abbrev pub is_done : Answer → Bool
-is_done Done = true
-is_done (Refused refusal) = false
+is_done (Ok _) = true
+is_done (Err refusal) = false
 
 -- (a) the grammar words pass 1 to 3
 abbrev pub rule_a : List ℕ → Bool

@@ -4,13 +4,12 @@
 -- Rests on GrammarShape, and on language's Checks, WordsInRange and Matching.
 --
 -- Main definition: PassThree. Main statements: rule-a-exactly, headed, terminals-fit, left-sides-fit.
-use Rattle.std.specs.Prelude.{◌≡◌, refl, true, ◌↔◌, List, ℕ, ◌≤◌, ◌<◌, length}
+use Rattle.std.specs.Prelude.{◌≡◌, refl, true, ◌↔◌, List, ℕ, ◌≤◌, ◌<◌, length, Ok, Err}
 use Rattle.std.proofs.lemmas.Bool.{false≢true}
 use Rattle.std.proofs.Math.Option.{some}
 use Rattle.std.proofs.Common.{arith, lit<}
 use Rattle.laws.specs.Least.{Nowhere}
-use Rattle.refusals.specs.declared.Answer.{Answer}
-use Rattle.refusals.specs.declared.Answer.TheVariants.{Done, Refused}
+use Rattle.refusals.specs.Answers.{Answer}
 use Rattle.language.specs.Symbols.{Symbol}
 use Rattle.language.specs.Grammar.{left_side}
 use Rattle.language.specs.Words.{count_t, count_n, grammar_of}
@@ -34,25 +33,25 @@ pub record PassThree (words : List ℕ) : Type 0 where
   pub contents : Nowhere (BadContents words)
   pub symbols : Nowhere (BadSymbol words)
 
-done-is : (answer : Answer) → is_done answer ≡ true → answer ≡ Done
-done-is Done e = refl
-done-is (Refused refusal) e = absurd (false≢true e)
+done-is : (answer : Answer) → is_done answer ≡ true → answer ≡ Ok tt
+done-is (Ok _) e = refl
+done-is (Err refusal) e = absurd (false≢true e)
 
 module _ (words : List ℕ) where
   three-ready : Ready words symbol_conditions
   three-ready = finding (head-finds words) (λ h. finding (contents-finds words) (λ c. finding (symbols-find words) (λ s. ready)))
 
-  by : (check_symbols words ≡ Done) ↔ Given words symbol_conditions Done
+  by : (check_symbols words ≡ Ok tt) ↔ Given words symbol_conditions (Ok tt)
   unfolding check_symbols
-  by = given-exactly words three-ready Done
+  by = given-exactly words three-ready (Ok tt)
 
   pub rule-a-exactly : (rule_a words ≡ true) ↔ PassThree words
   rule-a-exactly = (λ e. out (by.0 (done-is (check_symbols words) e)), λ p. back (by.1 (passes p.head (passes p.contents (passes p.symbols passes_all)))))
     where
-      out : Given words symbol_conditions Done → PassThree words
+      out : Given words symbol_conditions (Ok tt) → PassThree words
       out (passes n (passes m (passes k passes_all))) = record { head = n; contents = m; symbols = k }
 
-      back : check_symbols words ≡ Done → rule_a words ≡ true
+      back : check_symbols words ≡ Ok tt → rule_a words ≡ true
       back e = rw e
 
   -- words that pass 1 to 3 have a head, with T and N in their ranges

@@ -4,39 +4,28 @@
 ghost use Rattle.std.specs.Prelude.{◌≡◌, ℕ, ◌+◌, ◌*◌, ◌≤◌, ◌<◌, length};
 ghost use Rattle.matrix.specs.GrammarShape.{byte_fits, grammar_in_shape};
 ghost use Rattle.laws.specs.Looks.{TellsAll};
-ghost use Rattle.matrix.specs.ByteTests.{byte_at, zero_at};
-
-use refusals::Answer;
+ghost use Rattle.matrix.specs.ByteTests.{byte_at};
+ghost use Rattle.std.specs.List.{list_all};
 
 // A byte of the matrix, a over b, neither past t, the number of terminals: # over # is 2; # over b is 0 or 1; a over # is 0 or 3; any
 // other 0 to 3.
 fn byte_fits(a: usize, b: usize, x: u8) -> bool
     ensures { (t : ℕ) → a ≤ t → b ≤ t → result ≡ byte_fits t a b x }
 {
-    if a == 0 {
-        if b == 0 {
-            return x == 2;
-        }
-        return x <= 1;
+    match (a, b) {
+        (0, 0) => x == 2,
+        (0, _) => x <= 1,
+        (_, 0) => (x == 0) | (x == 3),
+        _ => x <= 3,
     }
-    if b == 0 {
-        return (x == 0) | (x == 3);
-    }
-    x <= 3
 }
 
-// The bytes from `from` on, up to but not at `end`, are 0: all of them are looked at, with no exit before the end.
-fn all_zero(matrix: &[u8], from: usize, end: usize) -> bool
-    requires { (from ≤ end) × (end ≤ length matrix.now) }
-    ensures { TellsAll (zero_at matrix.now) from end result }
+// Each element of a run is this one: all of them are looked at, with no exit before the end. By `all`, which stops at the first that is another,
+// the matrix takes 25,000 instructions in place of 2,600, and 2.8 us in place of 0.25.
+pub fn all_are<T: PartialEq>(run: &[T], wanted: &T) -> bool
+    ensures { result ≡ list_all (λ x. T.eq x wanted.now) run.now }
 {
-    let mut zero = true;
-    let mut at = from;
-    while at < end {
-        zero = zero & (matrix[at] == 0);
-        at += 1;
-    }
-    zero
+    run.iter().fold(true, |all, x| all & (*x == *wanted))
 }
 
 // The bytes of row a, which is not past t, fit: those up to t, and those past t are 0.
@@ -45,14 +34,13 @@ fn row_fits(matrix: &[u8], t: usize, a: usize) -> bool
     ensures { TellsAll (byte_at t matrix.now) (64 * a) (64 * a + 64) result }
 {
     let start = 64 * a;
-    let mut b = 0;
-    while b <= t {
+    let past = t + 1;
+    for b in 0..past {
         if !byte_fits(a, b, matrix[start + b]) {
             return false;
         }
-        b += 1;
     }
-    all_zero(matrix, start + b, start + 64)
+    all_are(&matrix[start + past..start + 64], &0)
 }
 
 // The grammar words and the matrix keep the shape rules: (a) the words pass 1 to 3, (b) the matrix has its bytes, a over b at 64a + b, and
@@ -60,19 +48,18 @@ fn row_fits(matrix: &[u8], t: usize, a: usize) -> bool
 pub fn grammar_in_shape(words: &[u16], matrix: &[u8]) -> bool
     ensures { result ≡ grammar_in_shape words.now matrix.now }
 {
-    if let Answer::Refused(_) = words::check_symbols(words) {
+    if let Err(_) = words::check_symbols(words) {
         return false;
     }
     if matrix.len() < 4096 {
         return false;
     }
     let t = words[0] as usize;
-    let mut a = 0;
-    while a <= t {
+    let past = t + 1;
+    for a in 0..past {
         if !row_fits(matrix, t, a) {
             return false;
         }
-        a += 1;
     }
-    all_zero(matrix, 64 * a, 4096)
+    all_are(&matrix[64 * past..4096], &0)
 }

@@ -5,12 +5,9 @@
 -- Rests on layout's Layout and area's Shape, and on machine's States and TableOf.
 --
 -- Main definitions: step_answer, step_area, run_answer, run_area, join_answer, join_area.
-use Rattle.std.specs.Prelude.{true, false, List, ◌++◌, ℕ, get_or}
+use Rattle.std.specs.Prelude.{true, false, List, ◌++◌, ℕ, get_or, Ok, Err}
 use Rattle.refusals.specs.declared.Refusal.TheVariants.{BadState}
-use Rattle.refusals.specs.declared.Answer.{Answer}
-use Rattle.refusals.specs.declared.Answer.TheVariants.{Done, Refused}
-use Rattle.refusals.specs.declared.RunAnswer.{RunAnswer}
-use Rattle.refusals.specs.declared.RunAnswer.TheVariants as run
+use Rattle.refusals.specs.Answers.{Answer, RunAnswer}
 use Rattle.language.specs.Trees.{Span}
 use Rattle.machine.specs.States
 use Rattle.machine.specs.States.{State, Called, refused, became, Ran, refused_run, ran}
@@ -25,8 +22,8 @@ with_state area s = encode (get_or area 0 0) s ++ beyond_in area
 -- ---- step and join
 
 abbrev pub called_answer : Called Span → Answer
-called_answer (refused refusal) = Refused refusal
-called_answer (became s) = Done
+called_answer (refused refusal) = Err refusal
+called_answer (became s) = Ok tt
 
 abbrev pub called_area : Called Span → List ℕ → List ℕ
 called_area (refused refusal) area = area
@@ -57,8 +54,8 @@ join_area words matrix area c = called_area (join_call words matrix area c) area
 -- ---- run
 
 abbrev pub ran_answer : Ran Span → RunAnswer
-ran_answer (refused_run refusal) = run.Refused refusal
-ran_answer (ran made s) = run.Moves made
+ran_answer (refused_run refusal) = Err refusal
+ran_answer (ran made s) = Ok made
 
 abbrev pub ran_area : Ran Span → List ℕ → List ℕ
 ran_area (refused_run refusal) area = area

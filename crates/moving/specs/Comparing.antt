@@ -1,11 +1,12 @@
--- A rule's right side compared with a handle, word by word, from word i of the grammar and slot s of the area on.
+-- A rule's right side compared with a handle, word by word, from word i of it and slot s of the area on.
 -- Rests on MatchWords and on words' Laid.
 --
--- Main statements: body-next, body-last (where a right side ends); count_fits (a handle has no more symbols than slots); same_length (a right
+-- Main statements: body-next, body-last (where a right side ends); part-slice (its words); count_fits (a handle has no more symbols than slots); same_length (a right
 -- side of another length), same-there, same-past, same-differ (the next word and the next block), same-both (both end).
-use Rattle.std.specs.Prelude.{ℕ, suc, ◌+◌, ◌<◌, ◌≤◌, ◌≡◌, refl, Bool, true, false, ◌&&◌, List, [], ◌∷◌, eqb, length, get_or, take}
-use Rattle.std.proofs.Common.{ap, ◌∙◌, arith, add-one, drop_of_length-le, length-take, length-drop}
-use Rattle.std.proofs.Math.Seq.{slice, slice-cons}
+use Rattle.std.specs.Prelude.{ℕ, suc, ◌+◌, ◌-◌, ◌<◌, ◌≤◌, ◌≡◌, refl, Bool, true, false, ◌&&◌, List, [], ◌∷◌, eqb, length, get_or, take, drop}
+use Rattle.std.proofs.Common.{sym, ap, ◌∙◌, arith, add-one, drop_of_length-le, drop-cons, length-take, length-drop}
+use Rattle.std.proofs.Math.Seq.{slice}
+use Rattle.std.proofs.lemmas.List.{drop-take}
 use Rattle.laws.specs.Tests.{eq-eqb, ne_eqb}
 use Rattle.language.specs.Words.{count_r, entry, body_end}
 use Rattle.words.specs.Laid.{ends_next, ends_last}
@@ -19,12 +20,13 @@ body-next words r h = ends_next words r (omega arith) ∙ rw (add-one r)
 pub body-last : (words : List ℕ) (r : ℕ) → count_r words ≤ r + 1 → body_end words r ≡ length words
 body-last words r h = ends_last words r (omega arith)
 
-slice-none : (i end : ℕ) (words : List ℕ) → end ≤ i → slice i end words ≡ []
-slice-none i end words h = drop_of_length-le (take end words) {i = i} (omega (arith, length-take end words))
-
 and-false : (b : Bool) → (b && false) ≡ false
 and-false true = refl
 and-false false = refl
+
+-- the part of the words that a right side is
+pub part-slice : (words : List ℕ) (i end : ℕ) → i ≤ end → take (end - i) (drop i words) ≡ slice i end words
+part-slice words i end h = let e : i + (end - i) ≡ end = omega arith in sym (drop-take i (end - i) words) ∙ rw e
 
 -- lists of different lengths differ
 unlike : (v w : List ℕ) → (length v ≡ length w → ⊥) → same_words v w ≡ false
@@ -54,32 +56,33 @@ pub count_fits : {area : List ℕ} {head s : ℕ} → Whole area head s → s + 
 count_fits {area} {head} (no_block {s = s} q) = omega (arith, count_none area s head (omega arith))
 count_fits (a_block h w) = omega (arith, count-more (a_block h w) (omega (arith, whole_le w)), count_fits w)
 
-module _ (words : List ℕ) (end : ℕ) (fits : end ≤ length words) (area : List ℕ) (head : ℕ) (i s : ℕ) where
+-- as many words as symbols, or no match
+pub same_length : (words : List ℕ) (end : ℕ) → end ≤ length words → (area : List ℕ) (head i s : ℕ) → Whole area head s → s < head
+    → (end ≡ i + length (handle_words area s head) → ⊥) → same_words (slice i end words) (handle_words area s head) ≡ false
+same_length words end fits area head i s w l d =
+    unlike (slice i end words) (handle_words area s head)
+    (λ e. d (omega (arith, e, count-more w l, length-drop i (take end words), length-take end words)))
+
+module _ (right area : List ℕ) (head i s : ℕ) where
   abbrev same : Bool
-  same = same_words (slice i end words) (handle_words area s head)
+  same = same_words (drop i right) (handle_words area s head)
 
-  -- as many words as symbols, or no match
-  pub same_length : Whole area head s → s < head → (end ≡ i + length (handle_words area s head) → ⊥) → same ≡ false
-  same_length w l d =
-      unlike (slice i end words) (handle_words area s head)
-      (λ e. d (omega (arith, e, count-more w l, length-drop i (take end words), length-take end words)))
-
-  module _ (w : Whole area head s) (there : i < end) (counts : i + length (handle_words area s head) ≡ end) where
+  module _ (w : Whole area head s) (there : i < length right) (counts : i + length (handle_words area s head) ≡ length right) where
     -- there is a symbol for the next word
     pub same-there : s < head
     same-there = count-some w (omega (arith, counts))
 
-    pub counts-on : i + 1 + length (handle_words area (s + slot_word area s 2) head) ≡ end
+    pub counts-on : i + 1 + length (handle_words area (s + slot_word area s 2) head) ≡ length right
     counts-on = omega (arith, counts, count-more w same-there)
 
-    next : same ≡ (eqb (get_or words i 0) (slot_word area s 0) && same_words (slice (i + 1) end words) (handle_words area (s + slot_word area s 2) head))
-    next = rw (slice-cons i end words 0 there fits, handle-cons w same-there, add-one i)
+    next : same ≡ (eqb (get_or right i 0) (slot_word area s 0) && same_words (drop (i + 1) right) (handle_words area (s + slot_word area s 2) head))
+    next = rw (drop-cons right i 0 there, handle-cons w same-there, add-one i)
 
-    pub same-past : get_or words i 0 ≡ slot_word area s 0 → same ≡ same_words (slice (i + 1) end words) (handle_words area (s + slot_word area s 2) head)
-    same-past e = next ∙ rw (eq-eqb (get_or words i 0) (slot_word area s 0) e)
+    pub same-past : get_or right i 0 ≡ slot_word area s 0 → same ≡ same_words (drop (i + 1) right) (handle_words area (s + slot_word area s 2) head)
+    same-past e = next ∙ rw (eq-eqb (get_or right i 0) (slot_word area s 0) e)
 
-    pub same-differ : (get_or words i 0 ≡ slot_word area s 0 → ⊥) → same ≡ false
-    same-differ d = next ∙ rw (ne_eqb (get_or words i 0) (slot_word area s 0) d)
+    pub same-differ : (get_or right i 0 ≡ slot_word area s 0 → ⊥) → same ≡ false
+    same-differ d = next ∙ rw (ne_eqb (get_or right i 0) (slot_word area s 0) d)
 
-  pub same-both : Whole area head s → end ≤ i → i + length (handle_words area s head) ≡ end → same ≡ true
-  same-both w l counts = rw (slice-none i end words l, handle-none area s head (count-end w (omega (arith, counts))))
+  pub same-both : Whole area head s → length right ≤ i → i + length (handle_words area s head) ≡ length right → same ≡ true
+  same-both w l counts = rw (drop_of_length-le right {i = i} l, handle-none area s head (count-end w (omega (arith, counts))))

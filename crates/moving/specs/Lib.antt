@@ -19,6 +19,7 @@ pub mod MoveWords
 pub mod Moved
 pub mod OnWords
 pub mod OneMove
+pub mod OnStack
 pub mod PushLaw
 pub mod ReadCall
 pub mod ReadLaw

@@ -9,14 +9,12 @@ use Rattle.std.specs.Prelude.{◌≡◌, Bool, true, false, ◌&&◌, eqb, ltb, 
 use Rattle.std.proofs.Math.Path.{refl, ap}
 use Rattle.std.proofs.Common.{sym, ◌∙◌, arith}
 use mathlib.Core.List.{List, [], ◌∷◌}
-use Rattle.std.proofs.Math.Option.{Option, none, some}
+use Rattle.std.proofs.Math.Option.{Option}
 use Prim.Native.Nat.{ℕ, zero, suc, ◌+◌, ◌-◌, ◌<◌, ◌≤◌}
 use Rattle.laws.specs.Least.{first_below}
 use Rattle.laws.specs.Tests.{lt-ltb, le-ltb}
 use Rattle.language.specs.Words.{count_r, entry, right_words}
 use Rattle.layout.specs.Layout.{slot_word}
-use Rattle.moving.specs.declared.Matched.{Matched}
-use Rattle.moving.specs.declared.Matched.TheVariants.{Rule, NoRule}
 
 -- the symbol words of the blocks on the slots from s up to e, bottom first; at most `fuel` blocks
 abbrev pub symbol_words : ℕ → List ℕ → ℕ → ℕ → List ℕ
@@ -41,10 +39,6 @@ has_right words handle r = same_words (right_words words r) handle
 -- the least rule that has this right side
 unfoldable pub match_words : List ℕ → List ℕ → Option ℕ
 match_words words handle = first_below (has_right words handle) (count_r words)
-
-abbrev pub matched_of : Option ℕ → Matched
-matched_of none = NoRule
-matched_of (some r) = Rule r
 
 -- the contents are there, of one rule at least, and every body starts within the run
 pub record Readable (words : List ℕ) : Type 0 where

@@ -4,9 +4,9 @@
 -- Document 01, "Moves of a chunk"; docs/AREA.md gives the places.
 -- Rests on layout's Layout.
 --
--- Main definitions: tick_words, push_words, stick_words, accept_words, join_words, cleared_words, entry_words, reduce_words; put_words, ended_words, made_words (a
+-- Main definitions: tick_words, mark_of, push_words, stick_words, accept_words, join_words, cleared_words, entry_words, reduce_words; put_words, ended_words, made_words (a
 -- move not counted); Stands (a stack's words stand there); Ticks, Pushable, Stickable, Acceptable, Joinable, Laid, Roomy, Reducible (what each asks).
-use Rattle.std.specs.Prelude.{◌≡◌, List, ◌++◌, ℕ, zero, suc, ◌+◌, ◌*◌, ◌-◌, ◌/◌, ◌%◌, ◌<◌, ◌≤◌, length, get_or, take, drop, set}
+use Rattle.std.specs.Prelude.{◌≡◌, Bool, true, false, List, ◌++◌, ℕ, zero, suc, ◌+◌, ◌*◌, ◌-◌, ◌/◌, ◌%◌, ◌<◌, ◌≤◌, length, get_or, take, drop, set}
 use Rattle.language.specs.Trees.{Span}
 use Rattle.machine.specs.Entries.{Entry}
 use Rattle.layout.specs.Layout.{stack_size, stack_words, zeros, table_at, row_word, slots_at, slot_word, made_at_word, moves_in}
@@ -44,6 +44,11 @@ pub record Ticks (area : List ℕ) (moves : ℕ) : Type 0 where
   pub count : moves ≡ moves_in area
 
 -- ---- a symbol is put on a stack
+
+-- the word of a mark
+abbrev pub mark_of : Bool → ℕ
+mark_of true = 1
+mark_of false = 0
 
 -- chunk c's next unread symbol is on its stack, with this mark (0 or 1); the move not counted
 unfoldable pub put_words : List ℕ → ℕ → ℕ → List ℕ

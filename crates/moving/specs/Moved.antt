@@ -3,18 +3,16 @@
 -- Document 01, "Moves of a chunk", rules 1 to 6; "next symbol b and topmost stack terminal a".
 -- Rests on OneMove, on words' Laid and matrix's WordsOfShape.
 --
--- Main definitions: Moved (the words that a move leaves), uncounted (before it is counted), CallsFor (the move that leaves them, and can be made); Facing, Compared, Takes,
+-- Main definitions: status_of (why a chunk is stuck), Moved (the words that a move leaves), uncounted (before it is counted), CallsFor (the move that leaves them, and can be made); Facing, Compared, Takes,
 -- Taking (what is known on the way to it), HasLeft; live_in, rests_in.
 -- Main statements: stuck-on-top, put-on-top, put_first, stuck-blank, put_marked, put_equal, ended, accepted, stuck-end,
 -- put-unmarked, handle-there, handle-counts, replaced, stuck-rule; matrix-long, words-readable, has_left.
-use Rattle.std.specs.Prelude.{◌≡◌, refl, Bool, true, false, ◌&&◌, ◌||◌, List, [], ◌∷◌, map, ℕ, zero, suc, ◌+◌, ◌*◌, ◌/◌, ◌%◌, ◌<◌, ◌≤◌, eqb, ltb, leb, length, get_or, set}
+use Rattle.std.specs.Prelude.{◌≡◌, refl, Bool, true, false, ◌&&◌, List, map, ℕ, zero, suc, ◌+◌, ◌*◌, ◌/◌, ◌%◌, ◌<◌, ◌≤◌, eqb, ltb, leb, length, get_or, set, Some, None}
 use Rattle.std.proofs.Common.{sym, ap, subst, ◌∙◌, arith}
-use Rattle.std.proofs.lemmas.Bool.{false≢true}
-use Rattle.std.proofs.Math.Option.{Option, none, some}
+use Rattle.std.proofs.Math.Option.{some}
 use Rattle.laws.specs.Least.{finds-none}
-use Rattle.laws.specs.Tests.{ltb-not, not-both, or-first, lt-ltb, ne_eqb, eq-eqb, le-leb, lt-leb, leb-true, all, up_to}
+use Rattle.laws.specs.Tests.{lt-ltb, ne_eqb, eq-eqb, le-leb, lt-leb, leb-true, all, up_to}
 use Rattle.laws.specs.Passed.{both}
-use Rattle.language.specs.Trees.{Span}
 use Rattle.language.specs.Symbols.{Relation, blank, yields, equal, takes}
 use Rattle.language.specs.Grammar.{Rule, left_side}
 use Rattle.language.specs.Words.{word, count_t, count_a, count_r, entry, grammar_of}
@@ -24,7 +22,7 @@ use Rattle.language.proofs.Matching.{spelled_by}
 use Rattle.language.proofs.CheckHead.{head-finds}
 use Rattle.language.proofs.CheckContents.{contents-finds}
 use Rattle.words.specs.Laid
-use Rattle.machine.specs.Entries.{Entry, terminal_on, nonterminal_on, symbol, stack_symbols, top_terminal}
+use Rattle.machine.specs.Entries.{symbol, stack_symbols, top_terminal}
 use Rattle.machine.specs.Moves.{is_whole}
 use Rattle.machine.specs.TableOf.{relation_from, relation_at, table_of}
 use Rattle.layout.specs.Layout.{stack_size, table_at, row_word, slot_word}
@@ -33,11 +31,13 @@ use Rattle.matrix.specs.WordsOfShape.{PassThree, rule-a-exactly, left-sides-fit}
 use Rattle.matrix.specs.EndMarkOfShape.{grammar-in-shape}
 use Rattle.moving.specs.declared.Move.{Move}
 use Rattle.moving.specs.declared.Move.TheVariants.{Push, Stick, Accept, Reduce}
-use Rattle.moving.specs.declared.Matched.TheVariants as matched
-use Rattle.moving.specs.MoveWords.{from_of, head_of, end_of, marks_of, tick_words, put_words, push_words, stick_words}
+use Rattle.moving.specs.declared.Stuck.{Stuck}
+use Rattle.moving.specs.declared.Stuck.TheVariants.{NoRelation, NoRule, NotAxiom, SideBySide}
+use Rattle.moving.specs.MoveWords.{from_of, head_of, end_of, marks_of, tick_words, mark_of, put_words, push_words, stick_words}
 use Rattle.moving.specs.MoveWords.{ended_words, accept_words, made_words, reduce_words, Pushable, Stickable, Acceptable, Reducible}
-use Rattle.moving.specs.ReadWords.{Told, Stacked, top_word, TopIs, NonterminalOnTop, EndAndAxiom, HandleStarts, HandleIs}
-use Rattle.moving.specs.MatchWords.{handle_words, match_words, matched_of, Readable, Whole}
+use Rattle.moving.specs.Searches.{found_of, found-some, found-none}
+use Rattle.moving.specs.ReadWords.{Stacked, TopIs, NonterminalOnTop, EndAndAxiom, HandleStarts, HandleIs}
+use Rattle.moving.specs.MatchWords.{handle_words, match_words, Readable, Whole}
 use Rattle.moving.specs.Matches.{readable}
 use Rattle.moving.specs.HandleSlots.{SomeHandle, marks-some}
 use Rattle.moving.specs.MoveLaw.{Leaves, rule_1_stuck, rule_1, rule_2, rule_3, rule_4_yields, rule_4_equal, rule_4_last, rule_4_stuck, rule_5, rule_5_stuck, rule_6}
@@ -100,30 +100,37 @@ module _ {words bytes area : List ℕ} (h : Held words bytes area) where
 pub record Moved (words bytes area : List ℕ) (c : ℕ) (area' : List ℕ) : Type 0 where
   pub found : (m : Movable words bytes area c) → Leaves words bytes area c (stack_of m) (slot_word area (head_of area c) 0) area'
 
+-- the status of a chunk that is stuck so: the number of the refusal of that name
+abbrev pub status_of : Stuck → ℕ
+status_of NoRelation = 17
+status_of NoRule = 18
+status_of NotAxiom = 19
+status_of SideBySide = 20
+
 -- the words that each move leaves, and what it asks
 abbrev pub words_after : List ℕ → ℕ → Move → List ℕ
-words_after area c (Push mark) = push_words area c mark
-words_after area c (Stick status) = stick_words area c status
+words_after area c (Push marked) = push_words area c (mark_of marked)
+words_after area c (Stick why) = stick_words area c (status_of why)
 words_after area c Accept = accept_words area c
 words_after area c (Reduce from symbol rule) = reduce_words area c from symbol rule
 
 -- .. the move not counted
 abbrev pub uncounted : List ℕ → ℕ → Move → List ℕ
-uncounted area c (Push mark) = put_words area c mark
-uncounted area c (Stick status) = set area (table_at c 0) status
+uncounted area c (Push marked) = put_words area c (mark_of marked)
+uncounted area c (Stick why) = set area (table_at c 0) (status_of why)
 uncounted area c Accept = ended_words area c
 uncounted area c (Reduce from symbol rule) = made_words area c from symbol rule
 
 pub counted : (area : List ℕ) (c : ℕ) (move : Move) → tick_words (uncounted area c move) ≡ words_after area c move
 unfolding push_words stick_words accept_words reduce_words
-counted area c (Push mark) = refl
-counted area c (Stick status) = refl
+counted area c (Push marked) = refl
+counted area c (Stick why) = refl
 counted area c Accept = refl
 counted area c (Reduce from symbol rule) = refl
 
 abbrev pub Possible : List ℕ → ℕ → Move → Type 0
-Possible area c (Push mark) = Pushable area c mark
-Possible area c (Stick status) = Stickable area c
+Possible area c (Push marked) = Pushable area c (mark_of marked)
+Possible area c (Stick why) = Stickable area c
 Possible area c Accept = Acceptable area c
 Possible area c (Reduce from symbol rule) = Reducible area c from × Stacked area (from_of area c) from × (256 ≤ symbol)
 
@@ -137,8 +144,7 @@ pub record Facing (words bytes area : List ℕ) (c a b : ℕ) : Type 0 where
   pub movable : Movable words bytes area c
   pub next : b ≡ slot_word area (head_of area c) 0
   pub terminal : b < 256
-  pub low : a < 256
-  pub top : TopIs area (from_of area c) (head_of area c) a
+  pub top : TopIs area (from_of area c) (head_of area c) (Some a)
 
 -- .. and x is the byte of a over b
 pub record Compared (words bytes area : List ℕ) (c a b x : ℕ) : Type 0 where
@@ -159,32 +165,10 @@ pub record Taking (words bytes area : List ℕ) (c : ℕ) : Type 0 where
   pub takes_over : Takes words bytes area c
   pub marked : 0 < marks_of area c
 
-top-none : (stack : List (Entry Span)) → Told stack → {top : ℕ} → 256 ≤ top → top ≡ top_word (top_terminal stack) → top_terminal stack ≡ none
-top-none [] t l e = refl
-top-none (terminal_on mark a v ∷ stack) t l e = absurd (omega (arith, t.0))
-top-none (nonterminal_on k v ∷ stack) t l e = top-none stack t l e
-
-top-some : (a : ℕ) (o : Option ℕ) → a < 256 → a ≡ top_word o → o ≡ some a
-top-some a none l e = absurd (omega arith)
-top-some a (some b) l e = ap some (sym e)
-
-rule-some : (r : ℕ) (o : Option ℕ) → matched.Rule r ≡ matched_of o → o ≡ some r
-rule-some r none e = let z : ◌≡◌ {A = ℕ} 0 1 = cc in absurd (omega arith)
-rule-some r (some q) e = let p : r ≡ q = cc in ap some (sym p)
-
-rule-none : (o : Option ℕ) → matched.NoRule ≡ matched_of o → o ≡ none
-rule-none none e = refl
-rule-none (some q) e = let z : ◌≡◌ {A = ℕ} 0 1 = cc in absurd (omega arith)
-
--- "# over #", or not
-not-both-end : (a b : ℕ) → (ltb 0 a || ltb 0 b) ≡ true → (eqb a 0 && eqb b 0) ≡ false
-not-both-end zero zero e = absurd (false≢true e)
-not-both-end zero (suc b) e = ne_eqb (suc b) 0 (omega arith)
-not-both-end (suc a) b e = rw (ne_eqb (suc a) 0 (omega arith))
-
-both_end : (a b : ℕ) → (ltb 0 a || ltb 0 b) ≡ false → (a ≡ 0) × (b ≡ 0)
-both_end zero b e = (refl, omega (arith, (ltb-not 0 b).0 e))
-both_end (suc a) b e = absurd (not-both (ltb 0 (suc a) || ltb 0 b) (or-first (ltb 0 (suc a)) (ltb 0 b) (lt-ltb 0 (suc a) (omega arith))) e)
+-- not "# over #"
+not-both-end : (a b : ℕ) → (a ≡ 0 → b ≡ 0 → ⊥) → (eqb a 0 && eqb b 0) ≡ false
+not-both-end zero b n = ne_eqb b 0 (n refl)
+not-both-end (suc a) b n = rw (ne_eqb (suc a) 0 (omega arith))
 
 pub blank-other : (x : ℕ) → (x ≡ 1 → ⊥) → (x ≡ 2 → ⊥) → (x ≡ 3 → ⊥) → relation_from x ≡ blank
 blank-other zero p q r = refl
@@ -202,12 +186,12 @@ module _ {words bytes area : List ℕ} {c : ℕ} where
   put-on-top h t = record { found = λ m. rule_1 h (sym (t.found (stack_of m) (stack-held m))) }
 
   -- 2
-  pub put_first : slot_word area (head_of area c) 0 < 256 → {top : ℕ} → 256 ≤ top → TopIs area (from_of area c) (head_of area c) top → Moved words bytes area c (push_words area c 0)
-  put_first h l t = record { found = λ m. rule_2 h (top-none (stack_of m) (stack-held m).told l (t.found (stack_of m) (stack-held m))) }
+  pub put_first : slot_word area (head_of area c) 0 < 256 → TopIs area (from_of area c) (head_of area c) None → Moved words bytes area c (push_words area c 0)
+  put_first h t = record { found = λ m. rule_2 h (found-none (top_terminal (stack_of m)) (t.found (stack_of m) (stack-held m))) }
 
   module _ {a b : ℕ} (f : Facing words bytes area c a b) where
     over : (m : Movable words bytes area c) → top_terminal (stack_of m) ≡ some a
-    over m = top-some a (top_terminal (stack_of m)) f.low (f.top.found (stack_of m) (stack-held m))
+    over m = found-some a (top_terminal (stack_of m)) (f.top.found (stack_of m) (stack-held m))
 
     -- a and b fit the matrix
     pub top-fits : a < 64
@@ -231,13 +215,11 @@ module _ {words bytes area : List ℕ} {c : ℕ} where
     pub put_marked : get_or bytes (64 * a + b) 0 ≡ 1 → Moved words bytes area c (push_words area c 1)
     put_marked e = of-next (λ m. rule_4_yields {a = a} f.terminal (over m) (relation-is yields (ap relation_from e)))
 
-    pub put_equal : get_or bytes (64 * a + b) 0 ≡ 2 → (ltb 0 a || ltb 0 b) ≡ true → Moved words bytes area c (push_words area c 0)
-    put_equal e z = of-next (λ m. rule_4_equal {a = a} f.terminal (over m) (relation-is equal (ap relation_from e)) (not-both-end a b z))
+    pub put_equal : get_or bytes (64 * a + b) 0 ≡ 2 → (a ≡ 0 → b ≡ 0 → ⊥) → Moved words bytes area c (push_words area c 0)
+    put_equal e n = of-next (λ m. rule_4_equal {a = a} f.terminal (over m) (relation-is equal (ap relation_from e)) (not-both-end a b n))
 
-  pub ended : {a b : ℕ} → Compared words bytes area c a b 2 → (ltb 0 a || ltb 0 b) ≡ false → Compared words bytes area c 0 0 2
-  ended {a} {b} k z =
-      let p = both_end a b z in
-      subst (λ (x : ℕ). Compared words bytes area c x 0 2) p.0 (subst (λ (y : ℕ). Compared words bytes area c a y 2) p.1 k)
+  pub ended : {a b : ℕ} → Compared words bytes area c a b 2 → a ≡ 0 → b ≡ 0 → Compared words bytes area c 0 0 2
+  ended {a} {b} k p q = subst (λ (x : ℕ). Compared words bytes area c x 0 2) p (subst (λ (y : ℕ). Compared words bytes area c a y 2) q k)
 
   whole_is : {whole : Bool} → EndAndAxiom area (from_of area c) (head_of area c) (count_a words) whole → (m : Movable words bytes area c)
       → is_whole (table_of words bytes) (stack_of m) ≡ whole
@@ -291,13 +273,13 @@ module _ {words bytes area : List ℕ} {c : ℕ} where
           let m = fact.movable in
           count_held m (the-handle m).above at count k ∙ ap (λ (i : ℕ). length (handle_words area i (head_of area c))) (sym (starts-at m))
 
-      pub stuck-rule : matched.NoRule ≡ matched_of (match_words words (handle_words area at (head_of area c))) → Moved words bytes area c (stick_words area c 18)
+      pub stuck-rule : None ≡ found_of (match_words words (handle_words area at (head_of area c))) → Moved words bytes area c (stick_words area c 18)
       stuck-rule e =
-          of-next fact (λ m. rule_5_stuck {a = t.takes_over.a} fact.terminal (over fact m) is-taken (the-handle m).above (sym (the-rule m) ∙ rule-none _ e))
+          of-next fact (λ m. rule_5_stuck {a = t.takes_over.a} fact.terminal (over fact m) is-taken (the-handle m).above (sym (the-rule m) ∙ found-none _ e))
 
-      module _ (r : ℕ) (e : matched.Rule r ≡ matched_of (match_words words (handle_words area at (head_of area c)))) where
+      module _ (r : ℕ) (e : Some r ≡ found_of (match_words words (handle_words area at (head_of area c)))) where
         matches : (m : Movable words bytes area c) → matching (grammar_of words) (map symbol (stack_symbols (the-handle m).handle)) ≡ some r
-        matches m = sym (the-rule m) ∙ rule-some r _ e
+        matches m = sym (the-rule m) ∙ found-some r _ e
 
         in-grammar : (m : Movable words bytes area c) → r < count_r words
         in-grammar m = in-play words (spelled_by _ (matches m))

@@ -4,7 +4,7 @@
 -- Rests on Calls, OnWords and RunMoves, and on start's Start and shape's Safe.
 --
 -- Main definitions: read_answer, read_area. Main statements: read-begins, read-refused, can-start, read-leaves; not-read, read-few, read-runs, read-moved.
-use Rattle.std.specs.Prelude.{◌≡◌, true, ℕ, ◌+◌, ◌*◌, ◌≤◌, drop}
+use Rattle.std.specs.Prelude.{◌≡◌, true, ℕ, ◌+◌, ◌*◌, ◌≤◌, drop, Ok, Err}
 use Rattle.std.proofs.Math.Path.{refl, sym, ap}
 use Rattle.std.proofs.Common.{subst, ◌∙◌}
 use mathlib.Core.List.{List, [], ◌∷◌, ◌++◌}
@@ -12,8 +12,7 @@ use Rattle.std.proofs.Math.ListN.{length}
 use Rattle.std.proofs.lemmas.Bool.{not-true, not-false}
 use Rattle.laws.specs.Tests.{false-unless}
 use Rattle.refusals.specs.declared.Refusal.{Refusal}
-use Rattle.refusals.specs.declared.Answer.{Answer}
-use Rattle.refusals.specs.declared.Answer.TheVariants.{Done, Refused}
+use Rattle.refusals.specs.Answers.{Answer}
 use Rattle.language.specs.Trees.{Span}
 use Rattle.machine.specs.Moves.{Table}
 use Rattle.machine.specs.States.{State, ran, moving, run, start}
@@ -32,8 +31,8 @@ read_answer words matrix tokens room = start_answer words matrix tokens [] room
 
 -- the moves after a start that is accepted: a row of n tokens makes at most 2n + 2
 abbrev pub read_from : Answer → List ℕ → List ℕ → List ℕ → List ℕ → List ℕ
-read_from Done words matrix tokens area = run_area words matrix (start_area words matrix tokens [] area) 0 (2 * length tokens + 2)
-read_from (Refused refusal) words matrix tokens area = area
+read_from (Ok _) words matrix tokens area = run_area words matrix (start_area words matrix tokens [] area) 0 (2 * length tokens + 2)
+read_from (Err refusal) words matrix tokens area = area
 
 unfoldable pub read_area : List ℕ → List ℕ → List ℕ → List ℕ → List ℕ
 read_area words matrix tokens area = read_from (read_answer words matrix tokens (length area)) words matrix tokens area
@@ -58,14 +57,14 @@ module _ (words bytes tokens area : List ℕ) where
   unfolding read_area
   left_by e = ap (λ a. read_from a words bytes tokens area) e
 
-  pub read-refused : {refusal : Refusal} → read_answer words bytes tokens (length area) ≡ Refused refusal → read_area words bytes tokens area ≡ area
+  pub read-refused : {refusal : Refusal} → read_answer words bytes tokens (length area) ≡ Err refusal → read_area words bytes tokens area ≡ area
   read-refused e = left_by e
 
   start_left : {answer : Answer} → read_answer words bytes tokens (length area) ≡ answer → start_area words bytes tokens [] area ≡ started_area answer tokens [] area
   unfolding start_area
   start_left e = ap (λ a. started_area a tokens [] area) (sym read-begins ∙ e)
 
-  module _ (done : read_answer words bytes tokens (length area) ≡ Done) where
+  module _ (done : read_answer words bytes tokens (length area) ≡ Ok tt) where
     pub can-start : Startable lent
     can-start = (starts-exactly words bytes tokens [] (length area)).0 (sym read-begins ∙ done)
 
@@ -117,12 +116,12 @@ module _ (words bytes tokens area : List ℕ) {starting : Answer} {area' : List 
   abbrev pub Reads : Answer → List ℕ → Type 0
   Reads answer last = (answer ≡ read_answer words bytes tokens (length area)) × (last ≡ read_area words bytes tokens area)
 
-  pub not-read : {refusal : Refusal} → starting ≡ Refused refusal → Reads starting area'
+  pub not-read : {refusal : Refusal} → starting ≡ Err refusal → Reads starting area'
   not-read e =
       let q = read_as e in
       (e ∙ sym q, begins ∙ start_left words bytes tokens area q ∙ sym (read-refused words bytes tokens area q))
 
-  module _ (done : starting ≡ Done) where
+  module _ (done : starting ≡ Ok tt) where
     pub read-few : length tokens ≤ 16384
     read-few = few words bytes tokens area (read_as done)
 

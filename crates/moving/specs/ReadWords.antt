@@ -4,19 +4,19 @@
 -- an axiom"; "the handle runs from the topmost marked one to the top, with the nonterminal just below that mark if there is one"; "the
 -- next live chunk".
 -- A reading of a stack is said of every stack that stands in the words.
--- Rests on MoveWords, on machine's Entries and Moves, and on laws' Least.
+-- Rests on MoveWords and Searches, on machine's Entries and Moves, and on laws' Least.
 --
--- Main definitions: Told, Holds, HasStack; TopIs, top_after, NonterminalOnTop, EndAndAxiom, handle_below, HandleStarts, HandleIs, live_after.
-use Rattle.std.specs.Prelude.{◌≡◌, Bool, true, false, List, [], ◌∷◌, ℕ, ◌+◌, ◌-◌, ◌<◌, ◌≤◌, ltb, length, get_or}
-use Rattle.std.proofs.Math.Option.{Option, none, some}
+-- Main definitions: Told, Holds, HasStack; TopIs, top_word, terminal_of, top_after, NonterminalOnTop, EndAndAxiom, handle_below, HandleStarts, HandleIs, live_after.
+use Rattle.std.specs.Prelude.{◌≡◌, Bool, true, false, List, [], ◌∷◌, ℕ, ◌+◌, ◌-◌, ◌<◌, ◌≤◌, ltb, length, get_or, Some, None}
+use Rattle.std.specs.Prelude.{Option as Answered}
+use Rattle.std.proofs.Math.Option.{Option}
 use Rattle.laws.specs.Least.{first_from}
 use Rattle.language.specs.Trees.{Span}
 use Rattle.machine.specs.Entries.{Entry, terminal_on, nonterminal_on, top_terminal, top_is_nonterminal}
 use Rattle.machine.specs.Moves.{Table, is_whole}
 use Rattle.layout.specs.Layout.{stack_size, row_word}
-use Rattle.moving.specs.declared.Next.{Next}
-use Rattle.moving.specs.declared.Next.TheVariants.{Chunk, NoChunk}
 use Rattle.moving.specs.MoveWords.{from_of, head_of, slot_at, Stands}
+use Rattle.moving.specs.Searches.{found_of}
 
 -- ---- a stack on slots
 
@@ -58,14 +58,18 @@ pub record EndsBlock (area : List ℕ) (e : ℕ) : Type 0 where
 
 -- ---- the top
 
--- the word of the topmost terminal; 256, which is no terminal's, where there is none
-abbrev pub top_word : Option ℕ → ℕ
-top_word none = 256
-top_word (some a) = a
+-- "topmost stack terminal a", where there is one
+pub record TopIs (area : List ℕ) (s e : ℕ) (top : Answered ℕ) : Type 0 where
+  pub found : (stack : List (Entry Span)) → Holds area s e stack → top ≡ found_of (top_terminal stack)
 
--- "topmost stack terminal a"
-pub record TopIs (area : List ℕ) (s e top : ℕ) : Type 0 where
-  pub found : (stack : List (Entry Span)) → Holds area s e stack → top ≡ top_word (top_terminal stack)
+-- its word at hand: 256, which is no terminal's, where there is none
+abbrev pub top_word : Answered ℕ → ℕ
+top_word None = 256
+top_word (Some a) = a
+
+-- .. and the terminal of that word
+abbrev pub terminal_of : ℕ → Answered ℕ
+terminal_of top = elim (ltb top 256) [ true ↦ Some top | false ↦ None ]
 
 -- .. once a symbol of word b is put on
 abbrev pub top_after : ℕ → ℕ → ℕ
@@ -109,10 +113,6 @@ pub record HandleIs (area : List ℕ) (s e start count : ℕ) : Type 0 where
   pub counted : (stack : List (Entry Span)) → Holds area s e stack → count + length (handle_below stack) ≡ length stack
 
 -- ---- the next live chunk
-
-abbrev pub next_of : Option ℕ → Next
-next_of none = NoChunk
-next_of (some d) = Chunk d
 
 -- the status word of a live chunk is not 0
 abbrev pub live_at : List ℕ → ℕ → Bool

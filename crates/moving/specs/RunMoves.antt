@@ -5,17 +5,14 @@
 -- Main definitions: Runnable, RanWords (the words that a run's moves leave), Underway (after some of them).
 -- Main statements: runnable-stack; underway, underway-listed, underway-movable, underway-more, underway-rests, underway-spent; run-bad, run-gone, run-rests, run_moved;
 -- step-by-run (a step is a run of one move).
-use Rattle.std.specs.Prelude.{◌≡◌, Bool, List, ◌++◌, ℕ, suc, ◌+◌, ◌-◌, ◌<◌, ◌≤◌, length, get_or}
+use Rattle.std.specs.Prelude.{◌≡◌, Bool, List, ◌++◌, ℕ, suc, ◌+◌, ◌-◌, ◌<◌, ◌≤◌, length, get_or, Ok, Err}
 use Rattle.std.proofs.Math.Path.{refl, sym, ap}
 use Rattle.std.proofs.Common.{subst, ◌∙◌, arith}
 use Rattle.std.proofs.Math.Bool.{true, false}
 use Rattle.std.proofs.lemmas.Bool.{false≢true}
 use Rattle.laws.specs.Tests.{lt-ltb}
 use Rattle.refusals.specs.declared.Refusal.TheVariants.{BadState, NoChunk, AtRest}
-use Rattle.refusals.specs.declared.Answer.{Answer}
-use Rattle.refusals.specs.declared.Answer.TheVariants.{Done, Refused}
-use Rattle.refusals.specs.declared.RunAnswer.{RunAnswer}
-use Rattle.refusals.specs.declared.RunAnswer.TheVariants as answer
+use Rattle.refusals.specs.Answers.{Answer, RunAnswer}
 use Rattle.language.specs.Trees.{Span}
 use Rattle.language.specs.Words.{count_t, count_n}
 use Rattle.machine.specs.Moves.{Table}
@@ -138,7 +135,7 @@ module _ (words bytes area : List ℕ) (c budget : ℕ) where
   unfolding run_answer run_area
   by-run q = (sym (ap ran_answer q), sym (ap (λ (k : Ran Span). ran_area k area) q))
 
-  pub run-bad : in_shape words bytes area ≡ false → (answer.Refused BadState ≡ run_answer words bytes area c budget) × (area ≡ run_area words bytes area c budget)
+  pub run-bad : in_shape words bytes area ≡ false → (Err BadState ≡ run_answer words bytes area c budget) × (area ≡ run_area words bytes area c budget)
   run-bad e = by-run (run-broken words bytes area c budget e)
 
   module _ (low : get_or area 2 0 < 65536) (shape : in_shape words bytes area ≡ true) where
@@ -148,10 +145,10 @@ module _ (words bytes area : List ℕ) (c budget : ℕ) where
     by_state : run_call words bytes area c budget ≡ run (table_of words bytes) c budget (decode area)
     by_state = run-in-shape words bytes area c budget shape
 
-    pub run-gone : live_in area c ≡ false → (answer.Refused NoChunk ≡ run_answer words bytes area c budget) × (area ≡ run_area words bytes area c budget)
+    pub run-gone : live_in area c ≡ false → (Err NoChunk ≡ run_answer words bytes area c budget) × (area ≡ run_area words bytes area c budget)
     run-gone e = by-run (by_state ∙ (run-no-chunk (table_of words bytes) c budget (decode area)).1 (none-live stands e))
 
-    pub run-rests : live_in area c ≡ true → rests_in area c ≡ true → (answer.Refused AtRest ≡ run_answer words bytes area c budget) × (area ≡ run_area words bytes area c budget)
+    pub run-rests : live_in area c ≡ true → rests_in area c ≡ true → (Err AtRest ≡ run_answer words bytes area c budget) × (area ≡ run_area words bytes area c budget)
     run-rests e r = by-run (by_state ∙ (run-at-rest (table_of words bytes) c budget (decode area)).1 (at-rest-there stands e r))
 
     pub runnable : live_in area c ≡ true → Runnable words bytes area c
@@ -159,7 +156,7 @@ module _ (words bytes area : List ℕ) (c budget : ℕ) where
 
     -- the moves of a chunk that is not at rest are its run
     pub run_moved : (e : live_in area c ≡ true) (r : rests_in area c ≡ false) {made : ℕ} {area' : List ℕ} → RanWords words bytes area c budget made area'
-        → (answer.Moves made ≡ run_answer words bytes area c budget) × (area' ≡ run_area words bytes area c budget)
+        → (Ok made ≡ run_answer words bytes area c budget) × (area' ≡ run_area words bytes area c budget)
     run_moved e r v =
         let k = movable stands e r in
         let s = v.found (record { held = stands; live = the_live stands e }) in
@@ -189,8 +186,8 @@ one-step {Value} table c s = by-view refl (step-view table c s)
 
 -- the answer of a step by that of a run of one
 abbrev pub step_of : RunAnswer → Answer
-step_of (answer.Refused refusal) = Refused refusal
-step_of (answer.Moves made) = Done
+step_of (Err refusal) = Err refusal
+step_of (Ok made) = Ok tt
 
 module _ (words bytes area : List ℕ) (c : ℕ) where
   as-run : run_call words bytes area c 1 ≡ once (step_call words bytes area c)

@@ -5,6 +5,7 @@
 -- Main definition: SameSlots. Main statements: same_back; slot_same, stacked-same, laid_same, top-same, nonterminal-same, axiom-same, handle-is-same,
 -- whole_same, handle-words-same (what is read); set_same, cleared-same, over-same (what is stored).
 use Rattle.std.specs.Prelude.{ℕ, zero, suc, ◌+◌, ◌*◌, ◌-◌, ◌<◌, ◌≤◌, ◌≡◌, refl, Bool, true, false, List, [], ◌∷◌, ◌++◌, ltb, length, get_or, take, drop, set}
+use Rattle.std.specs.Prelude.{Option as Answered}
 use Rattle.std.proofs.Common.{sym, ap, ◌∙◌, arith, length-set, length-drop, length-take-le, ext_get_or, get_or-append-add, get_or-drop, get_or-set_other, get_or-set_same}
 use Rattle.std.proofs.Math.Decide.{dec_lt}
 use Rattle.std.proofs.Math.Seq.{set_out}
@@ -66,7 +67,7 @@ module _ {area other : List ℕ} (m : SameSlots area other) where
   whole_same (a_block {s = s} h w) = a_block (rw (slot_same s 2) at h) (rw (slot_same s 2) at (whole_same w))
 
 module _ {area other : List ℕ} (m : SameSlots area other) {s e : ℕ} where
-  pub top-same : {top : ℕ} → TopIs area s e top → TopIs other s e top
+  pub top-same : {top : Answered ℕ} → TopIs area s e top → TopIs other s e top
   top-same t = record { found = λ stack h. t.found stack (holds_same (same_back m) h) }
 
   pub nonterminal-same : {on : Bool} → NonterminalOnTop area s e on → NonterminalOnTop other s e on

@@ -19,7 +19,7 @@ use Rattle.moving.specs.declared.Hand.{Hand}
 use Rattle.moving.specs.AtHand.{AtHand}
 use Rattle.moving.specs.MoveWords.{slot_at, tick_words, put_words, ended_words, cleared_words, over_words, entry_words, noted_words, made_words}
 use Rattle.moving.specs.MoveWords.{Laid, Pushable, Stickable, Acceptable, Reducible}
-use Rattle.moving.specs.ReadWords.{last_word, TopIs, top_after}
+use Rattle.moving.specs.ReadWords.{last_word, TopIs, terminal_of, top_after}
 use Rattle.moving.specs.StackTops.{top_kept, top-laid}
 use Rattle.moving.specs.SameSlots.{SameSlots, slot_same, laid_same, set_same, cleared-same, over-same}
 use Rattle.moving.specs.Ready.{cleared-length, cleared-before, over-before, over-length, over_first, over_last}
@@ -41,7 +41,7 @@ pub record Holding (area : List ℕ) (c : ℕ) (h : Hand) : Type 0 where
 
 -- the topmost terminal at hand is that of the stack
 abbrev pub Topped : List ℕ → Hand → Type 0
-Topped area h = TopIs area h.from h.head h.top
+Topped area h = TopIs area h.from h.head (terminal_of h.top)
 
 -- a word that is not at hand
 abbrev pub Apart : ℕ → ℕ → Type 0
@@ -310,7 +310,7 @@ module _ {area : List ℕ} {c : ℕ} {h : Hand} (k : Holding area c h) where
         let last : last_word (set area at mark) headed ≡ headed - h.head
         = rw one (get_or-set_other area at (slot_at area headed - 1) mark 0 (omega (arith, e.1)) ∙ e.2) in
         let first : slot_word (set area at mark) h.head 0 ≡ slot_word area h.head 0 = rw one (get_or-set_other area at (slot_at area h.head + 0) mark 0 (omega arith)) in
-        top-laid long (λ j l. sym (get_or-set_other area at j mark 0 (omega arith))) e.0 e.1 last first t
+        top-laid long h.top (λ j l. sym (get_or-set_other area at j mark 0 (omega arith))) e.0 e.1 last first t
 
     held-pushed : Holding (set area at mark) c pushed
     held-pushed =
@@ -469,7 +469,7 @@ module _ {area : List ℕ} {c : ℕ} {h : Hand} (k : Holding area c h) where
     noted-below : (j : ℕ) → j < slot_at area from → get_or area j 0 ≡ get_or noted j 0
     noted-below j l = sym (noted-slot j (omega (arith, in-slots)) ∙ over-before area from h.head symbol j l in-slots.0 (omega (arith, in-slots)))
 
-    pub top-reduced : 256 ≤ symbol → h.from ≤ from → TopIs area h.from from top → Topped noted reduced
+    pub top-reduced : 256 ≤ symbol → h.from ≤ from → TopIs area h.from from (terminal_of top) → Topped noted reduced
     top-reduced nonterminal below t =
         let one : get_or noted 1 0 ≡ get_or area 1 0 = noted-word 1 (omega arith) in
         let long : length area ≡ length noted = simp length-set (sym long-over) in
@@ -477,7 +477,7 @@ module _ {area : List ℕ} {c : ℕ} {h : Hand} (k : Holding area c h) where
         = rw one (noted-slot (slot_at area h.head - 1) (omega (arith, in-slots)) ∙ over_last area from h.head symbol in-slots.0 in-slots.1) in
         let first : slot_word noted from 0 ≡ symbol
         = rw one (noted-slot (slot_at area from + 0) (omega (arith, in-slots)) ∙ over_first area from h.head symbol in-slots.0 in-slots.1) in
-        let laid : TopIs noted h.from h.head (top_after symbol top) = top-laid long noted-below below in-slots.0 last first t in
+        let laid : TopIs noted h.from h.head (terminal_of (top_after symbol top)) = top-laid long top noted-below below in-slots.0 last first t in
         rw (le-ltb symbol 256 nonterminal, top_after) at laid
 
     held-reduced : Holding noted c reduced

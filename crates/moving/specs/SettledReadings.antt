@@ -3,14 +3,15 @@
 --
 -- Main statements: hand-taking; hand-next, hand-stack, hand-below, hand-match (what can be read); of-next, of_nonterminal, of-top, of_axiom, of-handle, of-rule (what was read).
 use Rattle.std.specs.Prelude.{◌≡◌, Bool, List, ℕ, ◌+◌, ◌<◌, ◌≤◌, length}
+use Rattle.std.specs.Prelude.{Option as Answered}
 use Rattle.std.proofs.Common.{sym, ap, ◌∙◌, arith}
 use Rattle.layout.specs.Layout.{slots_at, slot_word}
 use Rattle.moving.specs.declared.Hand.{Hand}
-use Rattle.moving.specs.declared.Matched.{Matched}
 use Rattle.moving.specs.AtHand.{AtHand}
 use Rattle.moving.specs.MoveWords.{from_of, head_of, slot_at}
+use Rattle.moving.specs.Searches.{found_of}
 use Rattle.moving.specs.ReadWords.{Stacked, HasStack, TopIs, NonterminalOnTop, EndAndAxiom, HandleIs}
-use Rattle.moving.specs.MatchWords.{handle_words, match_words, matched_of, Whole}
+use Rattle.moving.specs.MatchWords.{handle_words, match_words, Whole}
 use Rattle.moving.specs.SameSlots.{SameSlots, same_back, slot_same, stacked-same, top-same, nonterminal-same, axiom-same, handle-is-same, whole_same, handle-words-same}
 use Rattle.moving.specs.Settled.{Holding, Settles, settles-slots}
 use Rattle.moving.specs.Moved.{Takes, Taking}
@@ -41,7 +42,7 @@ module _ {area whole : List ℕ} {c : ℕ} {h : Hand} (k : Holding area c h) (t 
   pub of_nonterminal : {on : Bool} → NonterminalOnTop area h.from h.head on → NonterminalOnTop whole (from_of whole c) (head_of whole c) on
   of_nonterminal r = rw (a.from, a.head) at (nonterminal-same (same_back same) r)
 
-  pub of-top : {top : ℕ} → TopIs area h.from h.head top → TopIs whole (from_of whole c) (head_of whole c) top
+  pub of-top : {top : Answered ℕ} → TopIs area h.from h.head top → TopIs whole (from_of whole c) (head_of whole c) top
   of-top r = rw (a.from, a.head) at (top-same (same_back same) r)
 
   pub of_axiom : {axioms : ℕ} {is : Bool} → EndAndAxiom area h.from h.head axioms is → EndAndAxiom whole (from_of whole c) (head_of whole c) axioms is
@@ -65,9 +66,9 @@ module _ {area whole : List ℕ} {c : ℕ} {h : Hand} (k : Holding area c h) (t 
     e ∙ ap length (sym (handle-words start)),
   )
 
-  pub of-rule : (words : List ℕ) (start : ℕ) {rule : Matched} → rule ≡ matched_of (match_words words (handle_words area start h.head))
-      → rule ≡ matched_of (match_words words (handle_words whole start (head_of whole c)))
-  of-rule words start e = e ∙ ap (λ (w : List ℕ). matched_of (match_words words w)) (handle-words start)
+  pub of-rule : (words : List ℕ) (start : ℕ) {rule : Answered ℕ} → rule ≡ found_of (match_words words (handle_words area start h.head))
+      → rule ≡ found_of (match_words words (handle_words whole start (head_of whole c)))
+  of-rule words start e = e ∙ ap (λ (w : List ℕ). found_of (match_words words w)) (handle-words start)
 
   -- "Takes, a marked terminal on the stack"
   pub hand-taking : {words bytes : List ℕ} → Takes words bytes whole c → (h.marks ≡ 0 → ⊥) → Taking words bytes whole c

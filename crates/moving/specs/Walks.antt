@@ -3,14 +3,15 @@
 --
 -- Main definitions: Down, Counted. Main statements: down_ends and down-under (what a turn asks), down-none (nothing is left); top-found, top-more;
 -- nonterminal-top, below-start, below-here, below-ends; counted-begins, counted_none, mark-found, mark-counted, mark-more.
-use Rattle.std.specs.Prelude.{ℕ, ◌+◌, ◌<◌, ◌≤◌, ◌≡◌, refl, Bool, true, false, List, [], ◌∷◌, leb, length}
+use Rattle.std.specs.Prelude.{ℕ, ◌+◌, ◌<◌, ◌≤◌, ◌≡◌, refl, Bool, true, false, List, [], ◌∷◌, leb, length, Some}
 use Rattle.std.proofs.Common.{sym, ap, ◌∙◌, true≢false, arith}
 use Rattle.std.proofs.lemmas.Bool.{false≢true}
 use Rattle.laws.specs.Tests.{le-leb, lt-leb}
 use Rattle.language.specs.Trees.{Span}
 use Rattle.machine.specs.Entries.{Entry, terminal_on, nonterminal_on, top_terminal, top_is_nonterminal}
 use Rattle.layout.specs.Layout.{stack_size, slot_word}
-use Rattle.moving.specs.ReadWords.{Holds, Stacked, start_slot, EndsBlock, top_word, below_mark, handle_below, NonterminalOnTop, BelowMark}
+use Rattle.moving.specs.Searches.{found_of}
+use Rattle.moving.specs.ReadWords.{Holds, Stacked, start_slot, EndsBlock, below_mark, handle_below, NonterminalOnTop, BelowMark}
 use Rattle.moving.specs.StackWords.{stacked, slot-start, slot-ends, slot-symbol, slot-mark, slot-under}
 
 -- slots that hold something end in a block
@@ -52,13 +53,13 @@ module _ (A : Type 0) (f : List (Entry Span) → A) {area : List ℕ} {s at : �
 -- ---- the topmost terminal
 
 module _ {area : List ℕ} {s at : ℕ} {stack : List (Entry Span)} (d : Down _ top_terminal area s at stack) (l : s < at) where
-  pub top-found : slot_word area (start_slot area at) 0 < 256 → slot_word area (start_slot area at) 0 ≡ top_word (top_terminal stack)
+  pub top-found : slot_word area (start_slot area at) 0 < 256 → Some (slot_word area (start_slot area at) 0) ≡ found_of (top_terminal stack)
   top-found b = go d.left d.holds d.same
     where
       go : (left : List (Entry Span)) → Holds area s at left → top_terminal stack ≡ top_terminal left
-          → slot_word area (start_slot area at) 0 ≡ top_word (top_terminal stack)
+          → Some (slot_word area (start_slot area at) 0) ≡ found_of (top_terminal stack)
       go [] h e = absurd (omega (arith, h.stands.stop))
-      go (terminal_on mark a v ∷ left) h e = slot-symbol h ∙ sym (ap top_word e)
+      go (terminal_on mark a v ∷ left) h e = ap Some (slot-symbol h) ∙ sym (ap found_of e)
       go (nonterminal_on k v ∷ left) h e = absurd (omega (arith, slot-symbol h))
 
   pub top-more : 256 ≤ slot_word area (start_slot area at) 0 → Down _ top_terminal area s (start_slot area at) stack

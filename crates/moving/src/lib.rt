@@ -4,7 +4,7 @@
 #![tactic(auto)]
 
 // What a run has at hand of its chunk: the chunk's row of the table, the counts of reductions and of moves, the word where the slots start,
-// and the word of the topmost terminal of its stack (256 where it has none). The area holds the row and the counts once the run has ended.
+// and the word of the topmost terminal of its stack. The area holds the row and the counts once the run has ended.
 #[derive(Clone, Copy)]
 pub struct Hand {
     pub status: u16,
@@ -15,6 +15,8 @@ pub struct Hand {
     pub reductions: u32,
     pub moves: u32,
     pub base: usize,
+    // 256 where it has none. As an Option<u16> it makes `parse` of a long row 2 to 10 % slower (9 instructions a token more), as an
+    // Option<usize> 19 to 32 %: docs/BENCH.md's goal "faster than Bison's" would be missed.
     pub top: u32,
 }
 
@@ -25,26 +27,21 @@ pub struct Handle {
     pub count: usize,
 }
 
-// The rule of a handle, or that there is none.
+// Why a chunk is stuck: the refusal of that name, by whose number its row of the table then tells it.
 #[derive(Clone, Copy)]
-pub enum Matched {
-    Rule(u16),
-    NoRule,
+pub enum Stuck {
+    NoRelation = 17,
+    NoRule = 18,
+    NotAxiom = 19,
+    SideBySide = 20,
 }
 
-// The next live chunk, or that there is none.
-#[derive(Clone, Copy)]
-pub enum Next {
-    Chunk(usize),
-    NoChunk,
-}
-
-// The move that a chunk's words call for: its next symbol put on its stack with this mark (0 or 1); stuck with 17 to 20; the # of the end
-// read; the handle from this slot up replaced by this left side of this rule.
+// The move that a chunk's words call for: its next symbol put on its stack, marked or not; stuck; the # of the end read; the handle from this
+// slot up replaced by this left side of this rule.
 #[derive(Clone, Copy)]
 pub enum Move {
-    Push(u16),
-    Stick(u16),
+    Push(bool),
+    Stick(Stuck),
     Accept,
     Reduce(u16, u16, u16),
 }

@@ -4,7 +4,7 @@
 --
 -- Main definition: Answered.
 -- Main statements: several, is_stuck, still-moves, at_rest (the outcome, test by test); refuses, passed_on, no_room, room (the answer, and the run).
-use Rattle.std.specs.Prelude.{◌≡◌, refl, Bool, List, ◌++◌, ℕ, ◌+◌, ◌*◌, ◌-◌, ◌≤◌, ◌<◌, get_or, drop}
+use Rattle.std.specs.Prelude.{◌≡◌, refl, Bool, List, ◌++◌, ℕ, ◌+◌, ◌*◌, ◌-◌, ◌≤◌, ◌<◌, get_or, drop, Ok, Err}
 use Rattle.std.proofs.Common.{sym, ap, ◌∙◌, arith}
 use Rattle.std.proofs.Math.Bool.{true, false}
 use Rattle.std.proofs.Math.Dec.{ltb}
@@ -12,8 +12,7 @@ use Rattle.std.proofs.Math.ListN.{length}
 use Rattle.laws.specs.Tests.{lt-ltb, le-ltb, le-leb, lt-leb}
 use Rattle.refusals.specs.declared.Refusal.{Refusal}
 use Rattle.refusals.specs.declared.Refusal.TheVariants.{Unfinished, NoRoom}
-use Rattle.refusals.specs.declared.ReportAnswer.{ReportAnswer}
-use Rattle.refusals.specs.declared.ReportAnswer.TheVariants.{Report, Refused}
+use Rattle.refusals.specs.Answers.{ReportAnswer}
 use Rattle.refusals.specs.Refusals.{stuck_refusal}
 use Rattle.language.specs.Trees.{Span, Reduction}
 use Rattle.language.specs.Reports.{put_in_order, report_words}
@@ -60,7 +59,7 @@ module _ (area : List ℕ) where
 abbrev pub Answered : Outcome → List ℕ → ReportAnswer → List ℕ → Type 0
 Answered o out answer last = (answer ≡ outcome_answer o (length out)) × (last ≡ outcome_out o out)
 
-pub refuses : {o : Outcome} {refusal : Refusal} (out : List ℕ) → o ≡ refused_row refusal → Answered o out (Refused refusal) out
+pub refuses : {o : Outcome} {refusal : Refusal} (out : List ℕ) → o ≡ refused_row refusal → Answered o out (Err refusal) out
 refuses out e = rw e (refl, refl)
 
 pub passed_on : {o p : Outcome} {answer : ReportAnswer} {last : List ℕ} (out : List ℕ) → o ≡ p → Answered p out answer last → Answered o out answer last
@@ -70,14 +69,14 @@ module _ (area out : List ℕ) {o : Outcome} (e : o ≡ words_report area) where
   count_is : length (put_in_order (made area)) ≡ get_or area 4 0
   count_is = sorted-length (made area) ∙ entries-length (get_or area 4 0) area (made_at_word area)
 
-  pub no_room : length out < 3 * get_or area 4 0 → Answered o out (Refused (NoRoom (3 * get_or area 4 0))) out
+  pub no_room : length out < 3 * get_or area 4 0 → Answered o out (Err (NoRoom (3 * get_or area 4 0))) out
   unfolding words_report
   no_room h =
       let t : ltb (length out) (3 * length (put_in_order (made area))) ≡ true = lt-ltb (length out) (3 * length (put_in_order (made area))) (omega (arith, count_is)) in
       rw (e, t, outcome_answer, outcome_out, count_is) (refl, refl)
 
   pub room : {last : List ℕ} {count : ℕ} → 3 * get_or area 4 0 ≤ length out → count ≡ moves area
-      → last ≡ report_words (put_in_order (made area)) ++ drop (3 * get_or area 4 0) out → Answered o out (Report (get_or area 4 0) count) last
+      → last ≡ report_words (put_in_order (made area)) ++ drop (3 * get_or area 4 0) out → Answered o out (Ok (record { entries = get_or area 4 0; moves = count })) last
   unfolding words_report
   room h m l =
       let t : ltb (length out) (3 * length (put_in_order (made area))) ≡ false = le-ltb (length out) (3 * length (put_in_order (made area))) (omega (arith, count_is)) in

@@ -6,11 +6,8 @@
 -- Rests on start's Start, machine's States, TableOf and Answers and results' Bounded, and language's Loads.
 --
 -- Main definitions: parse_outcome, parse_answer, parse_area, parse_out.
-use Rattle.std.specs.Prelude.{List, [], ◌++◌, ℕ, length, drop}
-use Rattle.refusals.specs.declared.Answer.{Answer}
-use Rattle.refusals.specs.declared.Answer.TheVariants.{Done, Refused}
-use Rattle.refusals.specs.declared.ReportAnswer.{ReportAnswer}
-use Rattle.refusals.specs.declared.ReportAnswer.TheVariants as report
+use Rattle.std.specs.Prelude.{List, [], ◌++◌, ℕ, length, drop, Ok, Err}
+use Rattle.refusals.specs.Answers.{Answer, ReportAnswer}
 use Rattle.language.specs.Words.{grammar_of}
 use Rattle.language.specs.Matrix.{matrix_of}
 use Rattle.language.specs.Loads.{load_answer}
@@ -34,30 +31,30 @@ parse_outcome words tokens =
 
 -- 1 to 9, then 11 for the work area
 abbrev pub then_start : Answer → List ℕ → List ℕ → ℕ → Answer
-then_start Done words tokens room = start_answer words (matrix_of (grammar_of words)) tokens [] room
-then_start (Refused refusal) words tokens room = Refused refusal
+then_start (Ok _) words tokens room = start_answer words (matrix_of (grammar_of words)) tokens [] room
+then_start (Err refusal) words tokens room = Err refusal
 
 unfoldable pub parse_begun : List ℕ → List ℕ → ℕ → Answer
 parse_begun words tokens room = then_start (load_answer words 4096) words tokens room
 
 -- then 17 to 20, then 11 for the report
 abbrev pub parsed_answer : Answer → Outcome → ℕ → ReportAnswer
-parsed_answer Done o room = outcome_answer o room
-parsed_answer (Refused refusal) o room = report.Refused refusal
+parsed_answer (Ok _) o room = outcome_answer o room
+parsed_answer (Err refusal) o room = Err refusal
 
 unfoldable pub parse_answer : List ℕ → List ℕ → ℕ → ℕ → ReportAnswer
 parse_answer words tokens room out_room = parsed_answer (parse_begun words tokens room) (parse_outcome words tokens) out_room
 
 abbrev pub parsed_area : Answer → ℕ → List ℕ → List ℕ
-parsed_area Done n area = zeros (need n 1) ++ drop (need n 1) area
-parsed_area (Refused refusal) n area = area
+parsed_area (Ok _) n area = zeros (need n 1) ++ drop (need n 1) area
+parsed_area (Err refusal) n area = area
 
 unfoldable pub parse_area : List ℕ → List ℕ → List ℕ → List ℕ
 parse_area words tokens area = parsed_area (parse_begun words tokens (length area)) (length tokens) area
 
 abbrev pub parsed_out : Answer → Outcome → List ℕ → List ℕ
-parsed_out Done o out = outcome_out o out
-parsed_out (Refused refusal) o out = out
+parsed_out (Ok _) o out = outcome_out o out
+parsed_out (Err refusal) o out = out
 
 unfoldable pub parse_out : List ℕ → List ℕ → ℕ → List ℕ → List ℕ
 parse_out words tokens room out = parsed_out (parse_begun words tokens room) (parse_outcome words tokens) out

@@ -4,16 +4,14 @@
 -- Rests on ParseCall and ParseLaws, on start's Start, StartKept and matrix's EndMarkOfShape, machine's Answers and results' UncutRow, and language's Loads.
 --
 -- Main definitions: Checked (1 to 9 pass), ParseNoRoom. Main statements: parse-area-given, parse-begins, parse-room-given.
-use Rattle.std.specs.Prelude.{◌≡◌, ◌↔◌, List, [], ℕ, ◌≤◌, ◌<◌, length}
+use Rattle.std.specs.Prelude.{◌≡◌, ◌↔◌, List, [], ℕ, ◌≤◌, ◌<◌, length, Ok, Err}
 use Rattle.std.proofs.Math.Path.{refl, ap}
 use Rattle.std.proofs.Common.{sym, ◌∙◌, true≢false, arith}
 use Rattle.laws.specs.Least.{Nowhere}
 use Rattle.laws.specs.Tests.{le-unless}
 use Rattle.refusals.specs.declared.Refusal.{Refusal}
 use Rattle.refusals.specs.declared.Refusal.TheVariants.{NoRoom}
-use Rattle.refusals.specs.declared.Answer.{Answer}
-use Rattle.refusals.specs.declared.Answer.TheVariants.{Done, Refused}
-use Rattle.refusals.specs.declared.ReportAnswer.TheVariants as report
+use Rattle.refusals.specs.Answers.{Answer, ReportAnswer}
 use Rattle.refusals.specs.Refusals.{number_of}
 use Rattle.language.specs.Words.{grammar_of}
 use Rattle.language.specs.Matrix.{matrix_of}
@@ -54,7 +52,7 @@ module _ (words tokens : List ℕ) (room : ℕ) where
     not-broken : Nowhere (GrammarBroken (lent words tokens room))
     not-broken v (grammar_broken f q) = true≢false (sym (own-shape a) ∙ f)
 
-    loaded : load_answer words 4096 ≡ Done
+    loaded : load_answer words 4096 ≡ Ok tt
     loaded = (accepted-exactly words 4096).1 (a, omega arith)
 
     begins : parse_begun words tokens room ≡ start_answer words (matrix_of (grammar_of words)) tokens [] room
@@ -68,7 +66,7 @@ module _ (words tokens : List ℕ) (room : ℕ) where
 
   -- a row that parse begins
   data Begins : Answer → Type 0 where
-    load_refuses : {refusal : Refusal} → load_answer words 4096 ≡ Refused refusal → Begins (Refused refusal)
+    load_refuses : {refusal : Refusal} → load_answer words 4096 ≡ Err refusal → Begins (Err refusal)
     start_answers : {answer : Answer} → Accepted words → start_answer words (matrix_of (grammar_of words)) tokens [] room ≡ answer → Begins answer
 
   begun-by : Begins (parse_begun words tokens room)
@@ -76,30 +74,30 @@ module _ (words tokens : List ℕ) (room : ℕ) where
   begun-by = go (load_answer words 4096) refl
     where
       go : (r : Answer) → load_answer words 4096 ≡ r → Begins (then_start r words tokens room)
-      go Done e = start_answers ((accepted-exactly words 4096).0 e).0 refl
-      go (Refused refusal) e = load_refuses e
+      go (Ok _) e = start_answers ((accepted-exactly words 4096).0 e).0 refl
+      go (Err refusal) e = load_refuses e
 
   -- 11 is given for the work area, with the words that it needs, exactly when 1 to 9 pass and it has fewer
-  pub parse-area-given : (v : ℕ) → (parse_begun words tokens room ≡ Refused (NoRoom v))
+  pub parse-area-given : (v : ℕ) → (parse_begun words tokens room ≡ Err (NoRoom v))
       ↔ (Checked words tokens room × (room < need (length tokens) 1) × (v ≡ need (length tokens) 1))
   parse-area-given v = ((λ e. out begun-by e), (λ l. back l.0 l.1 l.2))
     where
-      out : {r : Answer} → Begins r → r ≡ Refused (NoRoom v) → Checked words tokens room × (room < need (length tokens) 1) × (v ≡ need (length tokens) 1)
+      out : {r : Answer} → Begins r → r ≡ Err (NoRoom v) → Checked words tokens room × (room < need (length tokens) 1) × (v ≡ need (length tokens) 1)
       out (load_refuses q) e = let z = ((load-room-given words 4096 v).0 (q ∙ e)).1 in absurd (omega arith)
       out (start_answers a q) e =
           let s = (start-room-given words (matrix_of (grammar_of words)) tokens [] room v).0 (q ∙ e) in
           (record { loads = a; some_token = s.1; few_tokens = s.2; right_tokens = s.3 }, s.5, s.6)
 
-      back : Checked words tokens room → room < need (length tokens) 1 → v ≡ need (length tokens) 1 → parse_begun words tokens room ≡ Refused (NoRoom v)
+      back : Checked words tokens room → room < need (length tokens) 1 → v ≡ need (length tokens) 1 → parse_begun words tokens room ≡ Err (NoRoom v)
       back k h q =
           begins k.loads ∙ (start-room-given words (matrix_of (grammar_of words)) tokens [] room v).1
           (not-broken k.loads, k.some_token, k.few_tokens, k.right_tokens, no-cuts, h, q)
 
   -- the row is read exactly when load accepts the words and start the row
-  pub parse-begins : (parse_begun words tokens room ≡ Done) ↔ (Accepted words × Startable (lent words tokens room))
+  pub parse-begins : (parse_begun words tokens room ≡ Ok tt) ↔ (Accepted words × Startable (lent words tokens room))
   parse-begins = ((λ e. out begun-by e), (λ l. begins l.0 ∙ (starts-exactly words (matrix_of (grammar_of words)) tokens [] room).1 l.1))
     where
-      out : {r : Answer} → Begins r → r ≡ Done → Accepted words × Startable (lent words tokens room)
+      out : {r : Answer} → Begins r → r ≡ Ok tt → Accepted words × Startable (lent words tokens room)
       out (load_refuses q) e = let z : ◌≡◌ {A = ℕ} 0 1 = cc in absurd (omega arith)
       out (start_answers a q) e = (a, (starts-exactly words (matrix_of (grammar_of words)) tokens [] room).0 (q ∙ e))
 
@@ -134,23 +132,23 @@ module _ (words tokens : List ℕ) (room : ℕ) where
 
   -- 11 is given, for the area or for the report, exactly so
   pub parse-room-given : (report_room v : ℕ)
-      → (parse_answer words tokens room report_room ≡ report.Refused (NoRoom v)) ↔ ParseNoRoom words tokens room report_room v
+      → (parse_answer words tokens room report_room ≡ Err (NoRoom v)) ↔ ParseNoRoom words tokens room report_room v
   unfolding parse_answer
   parse-room-given report_room v = ((λ e. out (parse_begun words tokens room) refl e), back)
     where
-      same : {refusal : Refusal} → report.Refused refusal ≡ report.Refused (NoRoom v) → Refused refusal ≡ Refused (NoRoom v)
+      same : {refusal : Refusal} → ◌≡◌ {A = ReportAnswer} (Err refusal) (Err (NoRoom v)) → ◌≡◌ {A = Answer} (Err refusal) (Err (NoRoom v))
       same e = cc
 
-      out : (r : Answer) → parse_begun words tokens room ≡ r → parsed_answer r (parse_outcome words tokens) report_room ≡ report.Refused (NoRoom v)
+      out : (r : Answer) → parse_begun words tokens room ≡ r → parsed_answer r (parse_outcome words tokens) report_room ≡ Err (NoRoom v)
           → ParseNoRoom words tokens room report_room v
-      out Done q e =
+      out (Ok _) q e =
           let p = parse-begins.0 q in
           for_report (starts-checked p.0 p.1) (starts-enough p.1)
           ((outcome-room-given (parse_outcome words tokens) (outcome-never p.0 p.1) report_room v).0 e)
-      out (Refused refusal) q e = let p = (parse-area-given v).0 (q ∙ same e) in for_area p.0 p.1 p.2
+      out (Err refusal) q e = let p = (parse-area-given v).0 (q ∙ same e) in for_area p.0 p.1 p.2
 
       back : ParseNoRoom words tokens room report_room v
-          → parsed_answer (parse_begun words tokens room) (parse_outcome words tokens) report_room ≡ report.Refused (NoRoom v)
+          → parsed_answer (parse_begun words tokens room) (parse_outcome words tokens) report_room ≡ Err (NoRoom v)
       back (for_area k h q) = ap (λ r. parsed_answer r (parse_outcome words tokens) report_room) ((parse-area-given v).1 (k, h, q))
       back (for_report k h n) =
           let s = checked-starts k h in

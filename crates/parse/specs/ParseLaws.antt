@@ -6,16 +6,13 @@
 --
 -- Main definitions: Loaded (a grammar), Finished (a row's words once it rests), Parsed, Read (what load and read_through leave).
 -- Main statements: not-loaded, loaded, loaded-read; not-read, row-parses.
-use Rattle.std.specs.Prelude.{◌≡◌, true, List, [], ◌++◌, ℕ, ◌+◌, ◌*◌, ◌≤◌, ◌<◌, get_or}
+use Rattle.std.specs.Prelude.{◌≡◌, true, List, [], ◌++◌, ℕ, ◌+◌, ◌*◌, ◌≤◌, ◌<◌, get_or, Ok, Err}
 use Rattle.std.proofs.Math.Path.{refl, ap}
 use Rattle.std.proofs.Common.{sym, subst, ◌∙◌, append-nil, length-append, drop_of_length-le}
 use native.Mathlib.Omega.{arith}
 use Rattle.std.proofs.Math.ListN.{length, drop}
 use Rattle.refusals.specs.declared.Refusal.{Refusal}
-use Rattle.refusals.specs.declared.Answer.{Answer}
-use Rattle.refusals.specs.declared.Answer.TheVariants.{Done, Refused}
-use Rattle.refusals.specs.declared.ReportAnswer.{ReportAnswer}
-use Rattle.refusals.specs.declared.ReportAnswer.TheVariants as report
+use Rattle.refusals.specs.Answers.{Answer, ReportAnswer}
 use Rattle.language.specs.Words.{count_t, count_n, grammar_of}
 use Rattle.language.specs.Grammar.{Grammar}
 use Rattle.language.specs.Matrix.{matrix_of}
@@ -185,7 +182,7 @@ unfolding parse_begun
 begins-by words tokens room e = ap (λ a. then_start a words tokens room) e
 
 -- the bytes of an accepted load, where there are just 4,096
-loaded-matrix : (words bytes : List ℕ) → length bytes ≡ 4096 → load_answer words (length bytes) ≡ Done
+loaded-matrix : (words bytes : List ℕ) → length bytes ≡ 4096 → load_answer words (length bytes) ≡ Ok tt
     → load_bytes words bytes ≡ matrix_of (grammar_of words)
 unfolding load_bytes
 loaded-matrix words bytes long e =
@@ -194,24 +191,24 @@ loaded-matrix words bytes long e =
 
 -- words that load accepts, and the matrix that it writes
 pub record Loaded (words bytes : List ℕ) : Type 0 where
-  pub loads : load_answer words 4096 ≡ Done
+  pub loads : load_answer words 4096 ≡ Ok tt
   pub matrix_is : bytes ≡ matrix_of (grammar_of words)
 
 -- what is known once the grammar is loaded and the row read through: an answer that refuses is the parse's, with the area as it was; else the words are parsed
 pub record Read (words tokens area : List ℕ) (answer : Answer) (area' : List ℕ) : Type 0 where
   pub begins : parse_begun words tokens (length area) ≡ answer
-  pub kept : {refusal : Refusal} → answer ≡ Refused refusal → area' ≡ area
-  pub parsed : answer ≡ Done → Parsed words tokens (drop (need (length tokens) 1) area) area'
+  pub kept : {refusal : Refusal} → answer ≡ Err refusal → area' ≡ area
+  pub parsed : answer ≡ Ok tt → Parsed words tokens (drop (need (length tokens) 1) area) area'
 
-pub not-loaded : (words tokens area : List ℕ) {loading : Answer} → loading ≡ load_answer words 4096 → {refusal : Refusal} → loading ≡ Refused refusal
-    → Read words tokens area (Refused refusal) area
+pub not-loaded : (words tokens area : List ℕ) {loading : Answer} → loading ≡ load_answer words 4096 → {refusal : Refusal} → loading ≡ Err refusal
+    → Read words tokens area (Err refusal) area
 not-loaded words tokens area load e = record {
   begins = begins-by words tokens (length area) (sym load ∙ e);
   kept = λ q. refl;
   parsed = λ q. let z : ◌≡◌ {A = ℕ} 0 1 = cc in absurd (omega arith);
 }
 
-pub loaded : (words bytes : List ℕ) → length bytes ≡ 4096 → {loading : Answer} → loading ≡ load_answer words (length bytes) → loading ≡ Done
+pub loaded : (words bytes : List ℕ) → length bytes ≡ 4096 → {loading : Answer} → loading ≡ load_answer words (length bytes) → loading ≡ Ok tt
     → {bytes' : List ℕ} → bytes' ≡ load_bytes words bytes → Loaded words bytes'
 loaded words bytes long load done fills = record {
   loads = ap (load_answer words) (sym long) ∙ sym load ∙ done;
@@ -223,7 +220,7 @@ module _ {words bytes : List ℕ} (l : Loaded words bytes) (tokens area : List �
   abbrev rest : List ℕ
   rest = drop (need (length tokens) 1) area
 
-  row_read : reading ≡ Done → Parsed words tokens rest area'
+  row_read : reading ≡ Ok tt → Parsed words tokens rest area'
   row_read done =
       let starts = can-start words bytes tokens area (sym answers ∙ done) in
       let can = subst (λ m. Startable (record { words = words; matrix = m; tokens = tokens; cuts = []; room = length area })) l.matrix_is starts in
@@ -251,12 +248,12 @@ module _ {words tokens area : List ℕ} (out : List ℕ) {area' : List ℕ} {rea
       (answer ≡ parse_answer words tokens (length area) (length out))
       × ((area'' ≡ parse_area words tokens area) × (out' ≡ parse_out words tokens (length area) out))
 
-  pub not-read : {refusal : Refusal} → reading ≡ Refused refusal → Answers (report.Refused refusal) area' out
+  pub not-read : {refusal : Refusal} → reading ≡ Err refusal → Answers (Err refusal) area' out
   unfolding parse_answer parse_area parse_out
   not-read e = rw (r.begins ∙ e) (refl, (r.kept e, refl))
 
   -- the row's outcome and its words cleared are the parse
-  pub row-parses : reading ≡ Done → {area'' : List ℕ} {answer : ReportAnswer} {out' : List ℕ}
+  pub row-parses : reading ≡ Ok tt → {area'' : List ℕ} {answer : ReportAnswer} {out' : List ℕ}
       → answer ≡ outcome_answer (words_outcome area') (length out) → out' ≡ outcome_out (words_outcome area') out
       → area'' ≡ zeros (7 * length tokens + 18) ++ drop (7 * length tokens + 18) area' → Answers answer area'' out'
   unfolding parse_answer parse_area parse_out

@@ -1,5 +1,5 @@
+pub mod ChunkLaw
 pub mod EntryLaw
-pub mod OrderLaw
 pub mod OutcomeLaw
 pub mod ReportLaw
 pub mod SortLaw

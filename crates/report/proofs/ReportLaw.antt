@@ -1,9 +1,9 @@
 -- The two ways of `report`: 15 where a shape rule is broken, and otherwise the outcome read off the words.
 -- Main statements: refused-state, ready, reported-state.
+use Rattle.std.specs.Prelude.{Err}
 use Rattle.std.proofs.Common.{◌≡◌, sym, ◌∙◌, Bool, true, false, List, ℕ, ◌<◌, length, get_or}
 use Rattle.refusals.specs.declared.Refusal.TheVariants.{BadState}
-use Rattle.refusals.specs.declared.ReportAnswer.{ReportAnswer}
-use Rattle.refusals.specs.declared.ReportAnswer.TheVariants.{Refused}
+use Rattle.refusals.specs.Answers.{ReportAnswer}
 use Rattle.area.specs.Shape.{in_shape}
 use Rattle.shape.specs.InShape.{in-shape-holds}
 use Rattle.report.specs.ReportCall.{report_outcome, report_answer, report_out, report-broken, report-in-shape}
@@ -18,7 +18,7 @@ module _ (words matrix area : List ℕ) where
   abbrev Reported : List ℕ → ReportAnswer → List ℕ → Type 0
   Reported out answer last = (answer ≡ report_answer words matrix area (length out)) × (last ≡ report_out words matrix area out)
 
-  pub refused-state : {b : Bool} (out : List ℕ) → InShape b → b ≡ false → Reported out (Refused BadState) out
+  pub refused-state : {b : Bool} (out : List ℕ) → InShape b → b ≡ false → Reported out (Err BadState) out
   unfolding report_answer report_out
   refused-state out i e = refuses out (report-broken words matrix area (sym i ∙ e))
 

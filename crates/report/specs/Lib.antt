@@ -1,3 +1,4 @@
+pub mod EntryChunks
 pub mod EntryTests
 pub mod Merging
 pub mod ReportCall

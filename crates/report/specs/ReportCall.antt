@@ -5,12 +5,12 @@
 -- part of no tokens at place 0."
 -- Rests on layout's Layout and area's Shape, and on machine's States and Answers.
 --
--- Main definitions: report_outcome, report_answer, report_out; second_word, third_word, entry_stands, entry_start, entry_tokens, word_address.
+-- Main definitions: report_outcome, report_answer, report_out; second_word, third_word, entry_stands, entry_start, entry_end, entry_tokens, word_address.
 -- Main statements: report-broken, report-in-shape (the two ways of report_outcome).
 use Rattle.std.specs.Prelude.{◌≡◌, Bool, true, false, ◌&&◌, List, [], ℕ, ◌+◌, ◌*◌, leb, length, get_or}
 use Rattle.std.proofs.Math.Seq.{slice}
 use Rattle.refusals.specs.declared.Refusal.TheVariants.{BadState}
-use Rattle.refusals.specs.declared.ReportAnswer.{ReportAnswer}
+use Rattle.refusals.specs.Answers.{ReportAnswer}
 use Rattle.machine.specs.States.{Outcome, refused_row, outcome}
 use Rattle.machine.specs.Answers.{outcome_answer, outcome_out}
 use Rattle.layout.specs.Layout.{decode}
@@ -53,6 +53,10 @@ entry_stands report e count =
 -- where the part starts in the token run
 unfoldable pub entry_start : List ℕ → ℕ → ℕ → ℕ
 entry_start report e count = elim (entry_stands report e count) [ true ↦ second_word report e | false ↦ 0 ]
+
+-- where it ends there
+unfoldable pub entry_end : List ℕ → ℕ → ℕ → ℕ
+entry_end report e count = elim (entry_stands report e count) [ true ↦ third_word report e | false ↦ 0 ]
 
 -- the part's tokens
 unfoldable pub entry_tokens : List ℕ → ℕ → List ℕ → List ℕ

@@ -6,21 +6,17 @@ ghost use Rattle.layout.specs.Layout.{made_at_word, read_made};
 ghost use Rattle.outcomes.specs.OutcomeWords.{none_live, words_report, words_outcome, Reportable};
 
 use crate::order;
-use refusals::{Refusal, ReportAnswer};
+use refusals::{Refusal, Report};
 
 // Of so many chunks none but chunk 0 is live.
 fn alone(area: &[u16], count: usize) -> bool
     requires { 5 + 5 * count ≤ length area.now }
     ensures { result ≡ none_live (count - 1) area.now 10 }
 {
-    let mut i = 10;
-    let mut chunk = 1;
-    while chunk < count {
-        if area[i] != 0 {
+    for chunk in 1..count {
+        if area[5 + 5 * chunk] != 0 {
             return false;
         }
-        i += 5;
-        chunk += 1;
     }
     true
 }
@@ -33,41 +29,45 @@ fn write_report(area: &[u16], count: usize, out: &mut [u16])
     let tokens = area[0] as usize;
     let chunks = area[1] as usize;
     let made = 5 + 5 * chunks + 4 * (tokens + 2);
-    order::put_words(&area[made..], out, 3 * count);
-    order::put_in_order(out, count);
+    let run = &mut out[..3 * count];
+    run.copy_from_slice(&area[made..made + 3 * count]);
+    order::put_in_order(run);
 }
 
 // The report of a row at rest, written where there is room for it.
-fn report_of(area: &[u16], out: &mut [u16]) -> ReportAnswer
+fn report_of(area: &[u16], out: &mut [u16]) -> Result<Report, Refusal>
     requires { Reportable area.now }
     ensures value { result ≡ outcome_answer (words_report area.now) (length out.old) }
     ensures out_after { out.new ≡ outcome_out (words_report area.now) out.old }
 {
     let count = area[4] as u32;
     if out.len() < 3 * (count as usize) {
-        return ReportAnswer::Refused(Refusal::NoRoom(3 * count));
+        return Err(Refusal::NoRoom(3 * count));
     }
     write_report(area, count as usize, out);
     let moves = (area[2] as u32) + 65536 * (area[3] as u32);
-    ReportAnswer::Report(count, moves)
+    Ok(Report {
+        entries: count,
+        moves,
+    })
 }
 
 // The answer of a report: 16 where chunk 0 is not alone or not at rest, what chunk 0 is stuck with, or its report.
-pub(crate) fn outcome(area: &[u16], out: &mut [u16]) -> ReportAnswer
+pub(crate) fn outcome(area: &[u16], out: &mut [u16]) -> Result<Report, Refusal>
     requires { Reportable area.now }
     ensures value { result ≡ outcome_answer (words_outcome area.now) (length out.old) }
     ensures out_after { out.new ≡ outcome_out (words_outcome area.now) out.old }
 {
     if !alone(area, area[1] as usize) {
-        return ReportAnswer::Refused(Refusal::Unfinished);
+        return Err(Refusal::Unfinished);
     }
     let status = area[5];
     let head = area[7];
     if 17 <= status {
-        return ReportAnswer::Refused(refusals::stuck_refusal(status, (head - 1) as u32));
+        return Err(refusals::stuck_refusal(status, (head - 1) as u32));
     }
     if head < area[8] {
-        return ReportAnswer::Refused(Refusal::Unfinished);
+        return Err(Refusal::Unfinished);
     }
     report_of(area, out)
 }

@@ -1,13 +1,14 @@
 -- Reading an input piece by piece: what has been read so far, after a piece, and where reading ends.
-use Rattle.std.specs.Prelude.{◌≡◌, refl, List, [], ◌++◌, ℕ, ◌+◌, ◌-◌, ◌^◌, ◌<◌, ◌≤◌, length, ⊤, Some, None}
+use Rattle.std.specs.Prelude.{◌≡◌, refl, List, [], ◌++◌, ℕ, ◌+◌, ◌-◌, ◌^◌, ◌<◌, ◌≤◌, length, ⊤, Some, None, Result}
 use Rattle.std.proofs.Common.{sym, ap, ◌∙◌, arith, append_assoc, length-append}
 use Rattle.std.proofs.lemmas.List.{append-nil, nil_from_length}
 use Rattle.std.specs.Io.KnownBytes.{Consumes, IsAtEnd}
 use Rattle.std.specs.declared.option.Option.{Option}
+use Rattle.text.specs.declared.reading.Counts.{Counts}
+use Rattle.text.specs.declared.reading.Held.{Held}
+use Rattle.text.specs.declared.reading.Line.{Line}
 use Rattle.text.specs.declared.reading.State.{State}
-use Rattle.text.specs.declared.reading.TextAnswer.{TextAnswer}
-use Rattle.text.specs.declared.reading.TextAnswer.TheVariants.{More}
-use Rattle.text.specs.Feeding.{Held, held, start, fed_all, fed-append, answer_of, finish_of}
+use Rattle.text.specs.Feeding.{held, start, fed_all, fed-append, answer_of, finish_of}
 use Rattle.text.specs.Readings.{read_text}
 use Rattle.text.specs.TextFed.{answer_for, after, TextHeld}
 use Rattle.text.proofs.TextFed.{text-fed, still}
@@ -50,7 +51,7 @@ module _ (W T C : List ℕ) where
       }
 
   -- all of it has been read
-  all-read : (text : List ℕ) (h : Held) (said : TextAnswer) → h ≡ after W T C text → said ≡ finish_of h.state
+  all-read : (text : List ℕ) (h : Held) (said : Result Counts Line) → h ≡ after W T C text → said ≡ finish_of h.state
       → (said ≡ answer_for (read_text text)) × TextHeld W T C text h.words h.tokens h.cuts
   all-read text h said e s = (
     s ∙ ap (λ (k : Held). finish_of k.state) e ∙ (text-fed W T C text).finished,
@@ -58,7 +59,7 @@ module _ (W T C : List ℕ) where
   )
 
   -- reading ends where a read gives nothing and nothing is left
-  pub read-to-end : (known left left' : Option (List ℕ)) (h : Held) (turns : ℕ) (said : TextAnswer) → ReadSoFar known left h turns → Consumes left left' []
+  pub read-to-end : (known left left' : Option (List ℕ)) (h : Held) (turns : ℕ) (said : Result Counts Line) → ReadSoFar known left h turns → Consumes left left' []
       → IsAtEnd left' → said ≡ finish_of h.state → ReadsText W T C known said h.words h.tokens h.cuts
   read-to-end None left left' h turns said r c z s = tt
   read-to-end (Some text) None left' h turns said r c z s = absurd r
@@ -67,7 +68,7 @@ module _ (W T C : List ℕ) where
       λ short. all-read text h said (r.is_fed ∙ ap (λ (b : List ℕ). after W T C b) (none-left text r.read rest r.parted (c ∙ z))) s
 
   -- or where the text says what it says, whatever comes
-  pub read-to-answer : (known left : Option (List ℕ)) (h : Held) (turns : ℕ) (said : TextAnswer) → ReadSoFar known left h turns → (answer_of h.state ≡ More → ⊥)
+  pub read-to-answer : (known left : Option (List ℕ)) (h : Held) (turns : ℕ) (said : Result Counts Line) → ReadSoFar known left h turns → (answer_of h.state ≡ None → ⊥)
       → said ≡ finish_of h.state → ReadsText W T C known said h.words h.tokens h.cuts
   read-to-answer None left h turns said r n s = tt
   read-to-answer (Some text) None h turns said r n s = absurd r
@@ -81,7 +82,7 @@ module _ (W T C : List ℕ) where
           ∙ still h n rest
 
   -- or after as many turns as no text has bytes
-  pub read-to-turns : (known left : Option (List ℕ)) (h : Held) (turns : ℕ) (said : TextAnswer) → ReadSoFar known left h turns → turns ≡ 0 → said ≡ finish_of h.state
+  pub read-to-turns : (known left : Option (List ℕ)) (h : Held) (turns : ℕ) (said : Result Counts Line) → ReadSoFar known left h turns → turns ≡ 0 → said ≡ finish_of h.state
       → ReadsText W T C known said h.words h.tokens h.cuts
   read-to-turns None left h turns said r o s = tt
   read-to-turns (Some text) None h turns said r o s = absurd r

@@ -1,6 +1,7 @@
 -- Lines put one after the other into bytes that have room for all of them: the bytes from the front to the last line's end.
-use Rattle.std.specs.Prelude.{◌≡◌, List, [], ◌∷◌, ◌++◌, ℕ, zero, suc, ◌+◌, ◌-◌, ◌*◌, ◌^◌, ◌≤◌, ◌<◌, length, get_or, take, drop}
-use Rattle.std.proofs.Common.{sym, ap, ◌∙◌, arith, append_assoc, length-append, add-one, add-zero}
+use Rattle.std.specs.Prelude.{◌≡◌, List, [], ◌∷◌, ◌++◌, ℕ, zero, suc, ◌+◌, ◌-◌, ◌*◌, ◌/◌, ◌^◌, ◌≤◌, ◌<◌, length, get_or, take, drop}
+use Rattle.std.specs.Simd.{first_chunks}
+use Rattle.std.proofs.Common.{sym, ap, ◌∙◌, arith, append_assoc, length-append, add-one, add-zero, get_or-take, get_or-drop}
 use Rattle.std.proofs.lemmas.List.{append-nil, length-take-le}
 use Rattle.std.proofs.Math.Seq.{take-append_seam}
 use Rattle.laws.specs.Ascii.{line_feed, space}
@@ -12,6 +13,31 @@ use Rattle.rows.specs.Answers.{entry_lines}
 -- the line of one entry
 abbrev pub entry_of : List ℕ → ℕ → List ℕ
 entry_of run i = entry_line (get_or run (3 * i) 0) (get_or run (3 * i + 1) 0) (get_or run (3 * i + 2) 0)
+
+-- the words of the entry at i, where the run stands as entries
+entry-word : (k i j : ℕ) (run : List ℕ) → i < k → j < 3 → get_or (get_or (first_chunks 3 k run) i []) j 0 ≡ get_or run (3 * i + j) 0
+entry-word zero i j run h l = absurd (omega arith)
+entry-word (suc k) zero j run h l = get_or-take 3 run j 0 l ∙ ap (λ (at : ℕ). get_or run at 0) (omega arith)
+entry-word (suc k) (suc i) j run h l =
+    entry-word k i j (drop 3 run) (omega arith) l ∙ get_or-drop 3 run (3 * i + j) 0 ∙ ap (λ (at : ℕ). get_or run at 0) (omega arith)
+
+pub entry-is : (run : List ℕ) (entries : List (List ℕ)) (count i rule first after : ℕ) → entries ≡ first_chunks 3 (length run / 3) run → 3 * count ≤ length run → i < count
+    → rule ≡ get_or (get_or (take count entries) i []) 0 0
+    → first ≡ get_or (get_or (take count entries) i []) 1 0
+    → after ≡ get_or (get_or (take count entries) i []) 2 0
+    → entry_line rule first after ≡ entry_of run i
+entry-is run entries count i rule first after is room h r f a =
+    rw (
+      r ∙ word 0 (omega arith) ∙ ap (λ (at : ℕ). get_or run at 0) (add-zero (3 * i)),
+      f ∙ word 1 (omega arith),
+      a ∙ word 2 (omega arith),
+    )
+  where
+    word : (j : ℕ) → j < 3 → get_or (get_or (take count entries) i []) j 0 ≡ get_or run (3 * i + j) 0
+    word j l =
+        ap (λ (entry : List ℕ). get_or entry j 0)
+        (get_or-take count entries i [] h ∙ ap (λ (es : List (List ℕ)). get_or es i []) is)
+        ∙ entry-word (length run / 3) i j run (omega arith) l
 
 -- a line that has room
 module _ (out : List ℕ) (at : ℕ) (bytes : List ℕ) (room : at + length bytes ≤ length out) where

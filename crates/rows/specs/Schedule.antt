@@ -6,15 +6,12 @@
 -- Main definitions: rest_area, each_to_rest, join_rightwards, row_area, row_answer, row_entries.
 -- Main statements: each-more, joins-more (one turn of each loop); row-not-loaded, row-not-started,
 -- row-reported (the three ways in which a row ends); row-fits (a report's entries are in the run that was lent for them).
-use Rattle.std.specs.Prelude.{◌≡◌, refl, Bool, true, false, List, ℕ, zero, suc, ◌+◌, ◌-◌, ◌*◌, ◌≤◌, ◌<◌, ltb, length}
+use Rattle.std.specs.Prelude.{◌≡◌, refl, Bool, true, false, List, ℕ, zero, suc, ◌+◌, ◌-◌, ◌*◌, ◌≤◌, ◌<◌, ltb, length, Ok, Err}
 use Rattle.std.proofs.Common.{sym, ap, ◌∙◌, arith}
 use Rattle.laws.specs.Tests.{ltb-false}
-use Rattle.refusals.specs.declared.Answer.{Answer}
-use Rattle.refusals.specs.declared.Answer.TheVariants.{Done, Refused as AnswerRefused}
+use Rattle.refusals.specs.Answers.{Answer, ReportAnswer}
 use Rattle.refusals.specs.declared.Refusal.{Refusal}
 use Rattle.refusals.specs.declared.Refusal.TheVariants.{NoRoom}
-use Rattle.refusals.specs.declared.ReportAnswer.{ReportAnswer}
-use Rattle.refusals.specs.declared.ReportAnswer.TheVariants.{Report, Refused}
 use Rattle.language.specs.Loads.{load_answer, load_bytes}
 use Rattle.machine.specs.States.{Outcome, refused_row, reported}
 use Rattle.machine.specs.Answers.{outcome_answer}
@@ -70,13 +67,13 @@ module _ (words matrix : List ℕ) where
 
 -- a refusal, or what comes after it
 abbrev pub or_else : Answer → ReportAnswer → ReportAnswer
-or_else Done next = next
-or_else (AnswerRefused refusal) next = Refused refusal
+or_else (Ok _) next = next
+or_else (Err refusal) next = Err refusal
 
 -- the words of a run, changed only after an answer that refuses nothing
 abbrev pub after_done : Answer → List ℕ → List ℕ → List ℕ
-after_done Done next run = next
-after_done (AnswerRefused refusal) next run = run
+after_done (Ok _) next run = next
+after_done (Err refusal) next run = run
 
 module _ (words tokens cuts matrix area : List ℕ) where
   -- the grammar's matrix, and the answer of start with it
@@ -100,10 +97,10 @@ module _ (words tokens cuts matrix area : List ℕ) where
       after_done (load_answer words (length matrix)) (after_done row_start (report_out words row_matrix row_area entries) entries) entries
 
 -- both have refused nothing
-else-done : (x y : Answer) (next : ReportAnswer) → x ≡ Done → y ≡ Done → next ≡ or_else x (or_else y next)
+else-done : (x y : Answer) (next : ReportAnswer) → x ≡ Ok tt → y ≡ Ok tt → next ≡ or_else x (or_else y next)
 else-done x y next p q = rw (p, q)
 
-after-done : (x y : Answer) (next run : List ℕ) → x ≡ Done → y ≡ Done → next ≡ after_done x (after_done y next run) run
+after-done : (x y : Answer) (next run : List ℕ) → x ≡ Ok tt → y ≡ Ok tt → next ≡ after_done x (after_done y next run) run
 after-done x y next run p q = rw (p, q)
 
 -- the three ways in which a row ends, with the words that each call left
@@ -112,15 +109,15 @@ module _ (words tokens cuts matrix area entries : List ℕ) where
   RowIs answer out =
       (answer ≡ row_answer words tokens cuts matrix area (length entries)) × (out ≡ row_entries words tokens cuts matrix area entries)
 
-  pub row-not-loaded : (refusal : Refusal) → load_answer words (length matrix) ≡ AnswerRefused refusal → RowIs (Refused refusal) entries
+  pub row-not-loaded : (refusal : Refusal) → load_answer words (length matrix) ≡ Err refusal → RowIs (Err refusal) entries
   unfolding row_answer row_entries
   row-not-loaded refusal e = (rw e, rw e)
 
-  pub row-not-started : (refusal : Refusal) (loaded : List ℕ) → load_answer words (length matrix) ≡ Done → loaded ≡ load_bytes words matrix
-      → start_answer words loaded tokens cuts (length area) ≡ AnswerRefused refusal → RowIs (Refused refusal) entries
+  pub row-not-started : (refusal : Refusal) (loaded : List ℕ) → load_answer words (length matrix) ≡ Ok tt → loaded ≡ load_bytes words matrix
+      → start_answer words loaded tokens cuts (length area) ≡ Err refusal → RowIs (Err refusal) entries
   unfolding row_answer row_entries
   row-not-started refusal loaded d m e =
-      let f : start_answer words (load_bytes words matrix) tokens cuts (length area) ≡ AnswerRefused refusal =
+      let f : start_answer words (load_bytes words matrix) tokens cuts (length area) ≡ Err refusal =
       ap (λ (bytes : List ℕ). start_answer words bytes tokens cuts (length area)) (sym m) ∙ e in
       (rw (d, f), rw (d, f))
 
@@ -131,13 +128,13 @@ module _ (words tokens cuts matrix area entries : List ℕ) where
   abbrev moved_with : List ℕ → List ℕ
   moved_with bytes = moved_area words bytes (length cuts + 1) (started_with bytes)
 
-  pub row-reported : (answer : ReportAnswer) (loaded started rested joined out : List ℕ) → load_answer words (length matrix) ≡ Done → loaded ≡ load_bytes words matrix
-      → start_answer words loaded tokens cuts (length area) ≡ Done → started ≡ start_area words loaded tokens cuts area
+  pub row-reported : (answer : ReportAnswer) (loaded started rested joined out : List ℕ) → load_answer words (length matrix) ≡ Ok tt → loaded ≡ load_bytes words matrix
+      → start_answer words loaded tokens cuts (length area) ≡ Ok tt → started ≡ start_area words loaded tokens cuts area
       → rested ≡ each_to_rest words loaded 0 (length cuts + 1) started → joined ≡ join_rightwards words loaded (length cuts + 1 - 1) rested
       → answer ≡ report_answer words loaded joined (length entries) → out ≡ report_out words loaded joined entries → RowIs answer out
   unfolding row_answer row_entries
   row-reported answer loaded started rested joined out d m e s r j a o =
-      let f : start_answer words (load_bytes words matrix) tokens cuts (length area) ≡ Done =
+      let f : start_answer words (load_bytes words matrix) tokens cuts (length area) ≡ Ok tt =
       ap (λ (bytes : List ℕ). start_answer words bytes tokens cuts (length area)) (sym m) ∙ e in
       let moved : joined ≡ moved_with loaded =
       j ∙ ap (λ (l : List ℕ). join_rightwards words loaded (length cuts + 1 - 1) l) (r ∙ ap (λ (l : List ℕ). each_to_rest words loaded 0 (length cuts + 1) l) s) in (
@@ -152,15 +149,15 @@ module _ (words tokens cuts matrix area entries : List ℕ) where
 -- ---- the entries of a report are in the run
 
 abbrev pub Fits : ReportAnswer → ℕ → Type 0
-Fits (Report count moves) room = 3 * count ≤ room
-Fits (Refused refusal) room = Unit {0}
+Fits (Ok report) room = 3 * report.entries ≤ room
+Fits (Err refusal) room = Unit {0}
 
 outcome-fits : (o : Outcome) (room : ℕ) → Fits (outcome_answer o room) room
 outcome-fits (refused_row refusal) room = tt
 outcome-fits (reported entries moves) room = go (ltb room (3 * length entries)) refl
   where
     go : (b : Bool) → ltb room (3 * length entries) ≡ b
-        → Fits (elim b [ true ↦ Refused (NoRoom (3 * length entries)) | false ↦ Report (length entries) moves ]) room
+        → Fits (elim b [ true ↦ Err (NoRoom (3 * length entries)) | false ↦ Ok (record { entries = length entries; moves = moves }) ]) room
     go true e = tt
     go false e = ltb-false room (3 * length entries) e
 
@@ -169,8 +166,8 @@ unfolding report_answer
 report-fits words matrix area room = outcome-fits (report_outcome words matrix area) room
 
 else-fits : (a : Answer) (next : ReportAnswer) (room : ℕ) → Fits next room → Fits (or_else a next) room
-else-fits Done next room f = f
-else-fits (AnswerRefused refusal) next room f = tt
+else-fits (Ok _) next room f = f
+else-fits (Err refusal) next room f = tt
 
 pub row-fits : (words tokens cuts matrix area : List ℕ) (room : ℕ) → Fits (row_answer words tokens cuts matrix area room) room
 unfolding row_answer

@@ -13,7 +13,7 @@ ghost use Rattle.rows.specs.Answers.{row_text, said_text, input_text};
 
 use std::io;
 use std::io::{Read, Write};
-use text::reading::TextAnswer;
+use text::reading::{Counts, Held, Line};
 
 // The row of these lines: what it gives is written. The buffers are what a row of n = 1,024 tokens in C = 64 chunks can need: an area
 // of 7n + 5C + 13 words, a report of 3n words, and 18 bytes an entry of the answer and 48 for its first line.
@@ -37,22 +37,18 @@ fn answer_row<W: Write>(
 }
 
 // The answer to what the text says: `text L` before anything is loaded, or what its row gives.
-fn answer_text<W: Write>(
-    output: &mut W,
-    said: TextAnswer,
-    words: &[u16],
-    tokens: &[u16],
-    cuts: &[u16],
-) -> io::Result<()>
-    requires answer_limits { AnswerLimits said }
-    requires in_bounds { (2564 ≤ length words.now) × (1024 ≤ length tokens.now) × (64 ≤ length cuts.now) }
-    ensures { OnOk result (Appends (W.contents output.old) (W.contents output.new) (said_text said words.now tokens.now cuts.now)) }
+fn answer_text<W: Write>(output: &mut W, said: Result<Counts, Line>, held: &Held) -> io::Result<()>
+    requires { AnswerLimits said }
+    ensures { OnOk result (Appends (W.contents output.old) (W.contents output.new) (said_text said held.now.words held.now.tokens held.now.cuts)) }
 {
     match said {
-        // no answer to a text that is at its end
-        TextAnswer::More => Ok(()),
-        TextAnswer::BadLine(line) => output::write_text(output, line),
-        TextAnswer::Lines(w, t, c) => answer_row(output, &words[..w], &tokens[..t], &cuts[..c]),
+        Ok(counts) => {
+            let words = &held.words[..counts.words];
+            let tokens = &held.tokens[..counts.tokens];
+            let cuts = &held.cuts[..counts.cuts];
+            answer_row(output, words, tokens, cuts)
+        }
+        Err(line) => output::write_text(output, line as u32),
     }
 }
 
@@ -62,11 +58,9 @@ fn answer_input<R: Read, W: Write>(input: &mut R, output: &mut W) -> io::Result<
     ensures { IfSome (R.remaining input.old) (λ text. length text < 2 ^ 64 → OnOk result (Appends (W.contents output.old) (W.contents output.new) (input_text text))) }
 {
     let mut piece = [0u8; 4096];
-    let mut words = [0u16; 2564];
-    let mut tokens = [0u16; 1024];
-    let mut cuts = [0u16; 64];
-    let said = input::read_lines(input, &mut piece, &mut words, &mut tokens, &mut cuts)?;
-    answer_text(output, said, &words, &tokens, &cuts)
+    let mut held = Held::new();
+    let said = input::read_lines(input, &mut piece, &mut held)?;
+    answer_text(output, said, &held)
 }
 
 // A read or a write that fails ends the program with its error.

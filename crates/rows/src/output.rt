@@ -1,13 +1,12 @@
 // The answer on standard output, each line ended by a line feed.
 ghost use Rattle.std.specs.Prelude.{◌≡◌, ◌+◌, ◌*◌, ◌≤◌, ◌++◌, length, take, OnOk};
 ghost use Rattle.std.specs.Io.KnownBytes.{Appends};
-ghost use Rattle.refusals.specs.declared.ReportAnswer.TheVariants.{Report, Refused};
 ghost use Rattle.refusals.specs.Refusals.{number_of, value_of};
 ghost use Rattle.lines.specs.AnswerLines.{refused_line, text_line};
 ghost use Rattle.rows.specs.Answers.{entry_lines, row_lines, row_room};
 ghost use Rattle.rows.specs.Schedule.{Fits};
 
-use refusals::{Refusal, ReportAnswer};
+use refusals::{Refusal, Report};
 use std::io;
 use std::io::Write;
 
@@ -22,9 +21,9 @@ pub(crate) fn write_text<W: Write>(output: &mut W, line: u32) -> io::Result<()>
 
 // `refused number value`.
 fn write_refused<W: Write>(output: &mut W, out: &mut [u8], refusal: Refusal) -> io::Result<()>
-    ensures { row_room (Refused refusal) ≤ length out.old → OnOk result (Appends (W.contents output.old) (W.contents output.new) (refused_line (number_of refusal) (value_of refusal))) }
+    ensures { row_room (Err refusal) ≤ length out.old → OnOk result (Appends (W.contents output.old) (W.contents output.new) (refused_line (number_of refusal) (value_of refusal))) }
 {
-    let end = lines::put_refused(out, 0, refusals::number(refusal), refusals::value(refusal));
+    let end = lines::put_refused(out, 0, refusal.number(), refusal.value());
     output.write_all(&out[..end])
 }
 
@@ -35,13 +34,15 @@ fn put_entries(out: &mut [u8], at: usize, entries: &[u16], count: usize) -> usiz
     ensures put { let lines = entry_lines entries.now count in at + length lines ≤ length out.old → (result ≡ at + length lines) × (take result out.new ≡ take at out.old ++ lines) }
 {
     let mut end = at;
-    let mut i: usize = 0;
-    while i < count {
-        let rule = entries[3 * i] as u32;
-        let first = entries[3 * i + 1] as u32;
-        let after = entries[3 * i + 2] as u32;
-        end = lines::put_entry(out, end, rule, first, after);
-        i += 1;
+    let (entries, _) = entries.as_chunks::<3>();
+    for &[rule, first, after] in &entries[..count] {
+        end = lines::put_entry(
+            out,
+            end,
+            u32::from(rule),
+            u32::from(first),
+            u32::from(after),
+        );
     }
     end
 }
@@ -52,15 +53,14 @@ fn write_report<W: Write>(
     out: &mut [u8],
     tokens: u32,
     chunks: u32,
-    moves: u32,
+    report: Report,
     entries: &[u16],
-    count: usize,
 ) -> io::Result<()>
-    requires { 3 * count ≤ length entries.now }
-    ensures { row_room (Report count moves) ≤ length out.old → OnOk result (Appends (W.contents output.old) (W.contents output.new) (row_lines tokens chunks (Report count moves) entries.now)) }
+    requires { 3 * report.entries ≤ length entries.now }
+    ensures { row_room (Ok report) ≤ length out.old → OnOk result (Appends (W.contents output.old) (W.contents output.new) (row_lines tokens chunks (Ok report) entries.now)) }
 {
-    let first = lines::put_parse(out, 0, tokens, chunks, moves);
-    let end = put_entries(out, first, entries, count);
+    let first = lines::put_parse(out, 0, tokens, chunks, report.moves);
+    let end = put_entries(out, first, entries, report.entries as usize);
     output.write_all(&out[..end])
 }
 
@@ -70,16 +70,14 @@ pub(crate) fn write_row<W: Write>(
     out: &mut [u8],
     tokens: u32,
     chunks: u32,
-    answer: ReportAnswer,
+    answer: Result<Report, Refusal>,
     entries: &[u16],
 ) -> io::Result<()>
     requires { Fits answer (length entries.now) }
     ensures { row_room answer ≤ length out.old → OnOk result (Appends (W.contents output.old) (W.contents output.new) (row_lines tokens chunks answer entries.now)) }
 {
     match answer {
-        ReportAnswer::Report(count, moves) => {
-            write_report(output, out, tokens, chunks, moves, entries, count as usize)
-        }
-        ReportAnswer::Refused(refusal) => write_refused(output, out, refusal),
+        Ok(report) => write_report(output, out, tokens, chunks, report, entries),
+        Err(refusal) => write_refused(output, out, refusal),
     }
 }

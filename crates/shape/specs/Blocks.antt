@@ -6,10 +6,11 @@
 --
 -- Main definitions: last_slots (a block's words after its first slot), EntryStands, passed_over.
 -- Main statements: block-slots, stands-to-tests, tests-to-stands, scan-block (every such block is passed), slot-view (which slots a
--- scan lets pass).
-use Rattle.std.specs.Prelude.{◌≡◌, Bool, ◌⊎◌, List, [], ◌∷◌, ◌++◌, leb, ltb, replicate}
+-- scan lets pass); same-some.
+use Rattle.std.specs.Prelude.{◌≡◌, Bool, ◌⊎◌, List, [], ◌∷◌, ◌++◌, leb, ltb, replicate, Some, None, unwrap_or, option_and_then}
+use Rattle.std.specs.Option.{is_some}
 use Rattle.std.proofs.Math.Path.{refl}
-use Rattle.std.proofs.Common.{sym, ap, ◌∙◌, inl, inr, zero-add, add-zero}
+use Rattle.std.proofs.Common.{sym, ap, ◌∙◌, subst, inl, inr, zero-add, add-zero}
 use Rattle.std.proofs.Math.Bool.{true, false}
 use Prim.Native.Nat.{ℕ, zero, suc, ◌+◌, ◌*◌, ◌-◌, ◌≤◌, ◌<◌}
 use native.Mathlib.Omega.{arith}
@@ -25,7 +26,7 @@ use Rattle.area.specs.declared.shape.Scan.{Scan}
 use Rattle.layout.specs.Layout.{more, size, block, mark_word, span_at, unread_of}
 use Rattle.layout.specs.Kept.{Lies, first_end, last_end, within, SymbolInRange}
 use Rattle.layout.specs.Lengths.{end-size}
-use Rattle.area.specs.Shape.{symbol_fits, place_fits, tag, one_if_terminal, broken, opened, inner, scan_slot, scanned}
+use Rattle.area.specs.Shape.{symbol_fits, place_fits, tag, one_if_terminal, opened, inner, scan_slot, scanned}
 
 -- ---- a block, slot by slot
 
@@ -212,7 +213,6 @@ tests-to-stands {t} {N} {n} {slot} {s} {m} {l} i q = opening i (symbol-view t N 
 -- a scan that has passed an entry
 abbrev pub passed_over : Scan → Entry Span → Scan
 passed_over st e = record {
-  ok = true;
   within = 0;
   size = size (unmarked e);
   symbols = st.symbols + 1;
@@ -221,20 +221,20 @@ passed_over st e = record {
 }
 
 abbrev pub scan_at : ℕ → ℕ → ℕ → ℕ → ℕ → Scan
-scan_at k l y x m = record { ok = true; within = k; size = l; symbols = y; terminals = x; marks = m }
+scan_at k l y x m = record { within = k; size = l; symbols = y; terminals = x; marks = m }
 
 module _ (t N n : ℕ) where
-  scan-first : (slot : ℕ) (st : Scan) (e : Entry Span) → st.ok ≡ true → st.within ≡ 0 → Tested t N n slot (word e) (mark_word e) (size (unmarked e))
+  scan-first : (slot : ℕ) (st : Scan) (e : Entry Span) → st.within ≡ 0 → Tested t N n slot (word e) (mark_word e) (size (unmarked e))
       → scan_slot t N n slot st (word e) (mark_word e) (size (unmarked e)) (tag (more (unmarked e)) (size (unmarked e)))
-      ≡ scan_at (more (unmarked e)) (size (unmarked e)) (st.symbols + 1) (st.terminals + one_if_terminal (word e)) (st.marks + mark_word e)
+      ≡ Some (scan_at (more (unmarked e)) (size (unmarked e)) (st.symbols + 1) (st.terminals + one_if_terminal (word e)) (st.marks + mark_word e))
   unfolding scan_slot
-  scan-first slot st e o i q =
+  scan-first slot st e i q =
       let k : ℕ = more (unmarked e) in
       let z : k + 1 - 1 ≡ k = omega arith in
       let some : eqb (k + 1) 0 ≡ false = ne_eqb (k + 1) 0 (λ h. omega arith) in
-      simp (o, eq-eqb st.within 0 i, some, q.symbol-fits, q.place-fits, z, eq-eqb (tag k (k + 1)) (tag k (k + 1)) refl)
+      simp (eq-eqb st.within 0 i, some, q.symbol-fits, q.place-fits, z, eq-eqb (tag k (k + 1)) (tag k (k + 1)) refl)
 
-  scan-inner : (slot k l y x m : ℕ) → scan_slot t N n slot (scan_at (suc k) l y x m) 0 0 0 (tag k l) ≡ scan_at k l y x m
+  scan-inner : (slot k l y x m : ℕ) → scan_slot t N n slot (scan_at (suc k) l y x m) 0 0 0 (tag k l) ≡ Some (scan_at k l y x m)
   unfolding scan_slot
   scan-inner slot k l y x m =
       let z : suc k - 1 ≡ k = omega arith in
@@ -247,62 +247,59 @@ module _ (t N n : ℕ) where
       let a : suc k + count ≡ suc (k + count) = omega arith in
       let b : slot + suc k ≡ slot + 1 + k = omega arith in
       rw (a, b)
-      (ap (λ v. scanned t N n (k + count) (slot + 1) (last_slots k l ++ words) v) (scan-inner slot k l y x m)
+      (ap (λ o. option_and_then (λ v. scanned t N n (k + count) (slot + 1) (last_slots k l ++ words) v) o) (scan-inner slot k l y x m)
       ∙ scan-rest k count (slot + 1) l y x m words)
 
   -- a block is passed
-  pub scan-block : t < 256 → (count slot : ℕ) (st : Scan) (e : Entry Span) (words : List ℕ) → st.ok ≡ true → st.within ≡ 0 → EntryStands t N n slot e
+  pub scan-block : t < 256 → (count slot : ℕ) (st : Scan) (e : Entry Span) (words : List ℕ) → st.within ≡ 0 → EntryStands t N n slot e
       → scanned t N n (size (unmarked e) + count) slot (block (mark_word e) (unmarked e) ++ words) st
       ≡ scanned t N n count (slot + size (unmarked e)) words (passed_over st e)
-  scan-block few count slot st e words o i h =
+  scan-block few count slot st e words i h =
       let k : ℕ = more (unmarked e) in
       let l : ℕ = size (unmarked e) in
       let a : k + 1 + count ≡ suc (k + count) = omega arith in
       let b : slot + (k + 1) ≡ slot + 1 + k = omega arith in
       rw (block-slots (mark_word e) (unmarked e), a, b)
-      (ap (λ v. scanned t N n (k + count) (slot + 1) (last_slots k l ++ words) v) (scan-first slot st e o i (stands-to-tests few e h))
+      (ap (λ o. option_and_then (λ v. scanned t N n (k + count) (slot + 1) (last_slots k l ++ words) v) o) (scan-first slot st e i (stands-to-tests few e h))
       ∙ scan-rest k count (slot + 1) l (st.symbols + 1) (st.terminals + one_if_terminal (word e)) (st.marks + mark_word e) words)
 
 -- ---- what a scan lets pass
 
--- a slot that a scan lets pass: the first of a symbol, or one inside a symbol
+pub same-some : {A : Type 0} {x y : A} → Some x ≡ Some y → x ≡ y
+same-some {x = x} e = ap (λ o. unwrap_or o x) e
+
+-- a slot that a scan lets pass, and the scan then: the first of a symbol, or one inside a symbol
 pub data SlotView (t N n slot : ℕ) (st : Scan) (s m l b : ℕ) : Scan → Type 0 where
-  starts : st.ok ≡ true → st.within ≡ 0 → 0 < l → Tested t N n slot s m l → b ≡ tag (l - 1) l
+  starts : st.within ≡ 0 → 0 < l → Tested t N n slot s m l → b ≡ tag (l - 1) l
       → SlotView t N n slot st s m l b (scan_at (l - 1) l (st.symbols + 1) (st.terminals + one_if_terminal s) (st.marks + m))
-  goes_on : st.ok ≡ true → 0 < st.within → s ≡ 0 → m ≡ 0 → l ≡ 0 → b ≡ tag (st.within - 1) st.size
+  goes_on : 0 < st.within → s ≡ 0 → m ≡ 0 → l ≡ 0 → b ≡ tag (st.within - 1) st.size
       → SlotView t N n slot st s m l b (scan_at (st.within - 1) st.size st.symbols st.terminals st.marks)
 
-abbrev is_ok : Scan → Bool
-is_ok st = st.ok
-
-module _ (t N n slot : ℕ) (st : Scan) (s m l b : ℕ) where
-  starting : st.ok ≡ true → st.within ≡ 0 → (opened t N n slot st s m l b).ok ≡ true → SlotView t N n slot st s m l b (opened t N n slot st s m l b)
-  starting o i e =
-      let p₁ = must-fail is_ok broken refl (eqb l 0) _ e in
-      let p₂ = must-pass is_ok broken refl (symbol_fits t N s m) _ p₁.good in
-      let p₃ = must-pass is_ok broken refl (place_fits n slot s l) _ p₂.good in
-      let p₄ = must-pass is_ok broken refl (eqb b (tag (l - 1) l)) _ p₃.good in
+module _ (t N n slot : ℕ) (st : Scan) (s m l b : ℕ) {then : Scan} where
+  starting : st.within ≡ 0 → opened t N n slot st s m l b ≡ Some then → SlotView t N n slot st s m l b then
+  starting i e =
+      let p₁ = must-fail is_some None refl (eqb l 0) _ (ap is_some e) in
+      let p₂ = must-pass is_some None refl (symbol_fits t N s m) _ p₁.good in
+      let p₃ = must-pass is_some None refl (place_fits n slot s l) _ p₂.good in
+      let p₄ = must-pass is_some None refl (eqb b (tag (l - 1) l)) _ p₃.good in
       let some : l ≡ 0 → ⊥ = eqb-false l 0 p₁.passes in
-      rw (p₁.is ∙ p₂.is ∙ p₃.is ∙ p₄.is)
-      (starts o i (omega arith) (record { symbol-fits = p₂.passes; place-fits = p₃.passes }) (eqb-true b (tag (l - 1) l) p₄.passes))
+      subst (λ v. SlotView t N n slot st s m l b v) (same-some (sym (p₁.is ∙ p₂.is ∙ p₃.is ∙ p₄.is) ∙ e))
+      (starts i (omega arith) (record { symbol-fits = p₂.passes; place-fits = p₃.passes }) (eqb-true b (tag (l - 1) l) p₄.passes))
 
-  going_on : st.ok ≡ true → (st.within ≡ 0 → ⊥) → (inner st s m l b).ok ≡ true → SlotView t N n slot st s m l b (inner st s m l b)
-  going_on o i e =
-      let p₁ = must-pass is_ok broken refl (eqb s 0) _ e in
-      let p₂ = must-pass is_ok broken refl (eqb m 0) _ p₁.good in
-      let p₃ = must-pass is_ok broken refl (eqb l 0) _ p₂.good in
-      let p₄ = must-pass is_ok broken refl (eqb b (tag (st.within - 1) st.size)) _ p₃.good in
-      rw (p₁.is ∙ p₂.is ∙ p₃.is ∙ p₄.is)
-      (goes_on o (omega arith) (eqb-true s 0 p₁.passes) (eqb-true m 0 p₂.passes) (eqb-true l 0 p₃.passes)
+  going_on : (st.within ≡ 0 → ⊥) → inner st s m l b ≡ Some then → SlotView t N n slot st s m l b then
+  going_on i e =
+      let p₁ = must-pass is_some None refl (eqb s 0) _ (ap is_some e) in
+      let p₂ = must-pass is_some None refl (eqb m 0) _ p₁.good in
+      let p₃ = must-pass is_some None refl (eqb l 0) _ p₂.good in
+      let p₄ = must-pass is_some None refl (eqb b (tag (st.within - 1) st.size)) _ p₃.good in
+      subst (λ v. SlotView t N n slot st s m l b v) (same-some (sym (p₁.is ∙ p₂.is ∙ p₃.is ∙ p₄.is) ∙ e))
+      (goes_on (omega arith) (eqb-true s 0 p₁.passes) (eqb-true m 0 p₂.passes) (eqb-true l 0 p₃.passes)
       (eqb-true b (tag (st.within - 1) st.size) p₄.passes))
 
-  pub slot-view : (scan_slot t N n slot st s m l b).ok ≡ true → SlotView t N n slot st s m l b (scan_slot t N n slot st s m l b)
+  pub slot-view : scan_slot t N n slot st s m l b ≡ Some then → SlotView t N n slot st s m l b then
   unfolding scan_slot
-  slot-view e =
-      let p = must-pass is_ok broken refl st.ok _ e in
-      rw p.is (go (eqb st.within 0) refl p.passes p.good)
+  slot-view = go (eqb st.within 0) refl
     where
-      go : (c : Bool) → eqb st.within 0 ≡ c → st.ok ≡ true → (pick c (opened t N n slot st s m l b) (inner st s m l b)).ok ≡ true
-          → SlotView t N n slot st s m l b (pick c (opened t N n slot st s m l b) (inner st s m l b))
-      go true q o e = starting o (eqb-true st.within 0 q) e
-      go false q o e = going_on o (eqb-false st.within 0 q) e
+      go : (c : Bool) → eqb st.within 0 ≡ c → pick c (opened t N n slot st s m l b) (inner st s m l b) ≡ Some then → SlotView t N n slot st s m l b then
+      go true q e = starting (eqb-true st.within 0 q) e
+      go false q e = going_on (eqb-false st.within 0 q) e

@@ -3,11 +3,12 @@
 -- Document 01, 15 BAD STATE; docs/AREA.md, rules (d), (e), (i), (j), (k).
 -- Rests on Encoded and Chunkwise.
 --
--- Main definitions: Counts (what a walk of the whole table counts).
+-- Main definitions: Counts (what a walk of the whole table counts), Walked.
 -- Main statements: walk-counts; first_to, first-of; end-to, end-of; potential-is; blank-zeros, blank-reads.
-use Rattle.std.specs.Prelude.{◌≡◌, Bool, true, false, ℕ, zero, suc, ◌+◌, ◌≤◌, ◌<◌, eqb, leb, length, get_or, take, drop}
+use Rattle.std.specs.Prelude.{◌≡◌, Bool, true, false, ℕ, zero, suc, ◌+◌, ◌≤◌, ◌<◌, eqb, leb, length, get_or, take, drop, Some}
+use Rattle.std.specs.Prelude as Prelude
 use Rattle.std.proofs.Math.Path.{refl}
-use Rattle.std.proofs.Common.{sym, ap, ap₂, ◌∙◌}
+use Rattle.std.proofs.Common.{sym, ap, ap₂, subst, ◌∙◌}
 use Rattle.std.proofs.lemmas.Bool.{false≢true}
 use mathlib.Core.List.{List, [], ◌∷◌, ◌++◌}
 use Rattle.std.proofs.Math.Option.{Option, none, some}
@@ -24,15 +25,15 @@ use Rattle.area.specs.declared.shape.Walk.{Walk}
 use Rattle.layout.specs.Layout.{stack_size, unread_size, status_word, total, rows, slots, zeros, encode}
 use Rattle.layout.specs.Kept.{LastHolds, Ending, whole, accepted, FirstLive, first_live}
 use Rattle.layout.specs.Lengths.{no-slots, tiles-within}
-use Rattle.area.specs.Shape.{walk_of, first_fits, end_fits, potential_of, blank}
-use Rattle.shape.specs.Walks.{AllFit, walk-passes, counted-all, status-word}
+use Rattle.area.specs.Shape.{fresh_walk, walk_of, first_fits, end_fits, potential_of, blank}
+use Rattle.shape.specs.Blocks.{same-some}
+use Rattle.shape.specs.Walks.{AllFit, walked_all, walk-passes, counted-all, status-word}
 use Rattle.shape.specs.Chunkwise.{tiles-from, last-from}
 use Rattle.shape.specs.Encoded.{area, slots_from}
 
 -- ---- the counts of a walk
 
 pub record Counts (chunks : List (Option (Chunk Span))) (w : Walk) : Type 0 where
-  pub ok_is : w.ok ≡ true
   pub at_is : w.at ≡ total chunks
   pub live_is : w.live ≡ length (live chunks)
   pub running_is : w.running ≡ running_in (live chunks)
@@ -40,27 +41,37 @@ pub record Counts (chunks : List (Option (Chunk Span))) (w : Walk) : Type 0 wher
   pub symbols_are : w.symbols ≡ symbols_in (live chunks)
   pub terminals_are : w.terminals ≡ terminals_in (live chunks)
 
+-- a walk that passes, and counts so
+pub record Walked (chunks : List (Option (Chunk Span))) (o : Prelude.Option Walk) : Type 0 where
+  pub walk : Walk
+  pub is : o ≡ Some walk
+  pub counts : Counts chunks walk
+
+pub walked-counts : {chunks : List (Option (Chunk Span))} {o : Prelude.Option Walk} {w : Walk} → Walked chunks o → o ≡ Some w → Counts chunks w
+walked-counts {chunks = chunks} p e = subst (λ v. Counts chunks v) (same-some (sym p.is ∙ e)) p.counts
+
 -- chunks that fit end within the slots
 pub total-within : {t N n : ℕ} {chunks : List (Option (Chunk Span))} → AllFit t N n 0 chunks → total chunks ≤ n + 2
 total-within {chunks = chunks} f = omega (arith, tiles-within (omega arith) (tiles-from f))
 
 pub walk-counts : {t N n : ℕ} {chunks : List (Option (Chunk Span))} → t < 256 → AllFit t N n 0 chunks → (words after beyond : List ℕ) → get_or words 0 0 ≡ n
     → get_or words 1 0 ≡ length chunks → drop 5 words ≡ rows 0 chunks ++ after → slots_from words 0 ≡ slots chunks ++ beyond
-    → Counts chunks (walk_of t N words)
+    → Walked chunks (walk_of t N words)
 unfolding walk_of
 walk-counts {t} {N} {n} {chunks} few f words after beyond n-is c-is d b =
-    let fresh : Walk = record { ok = true; at = 0; live = 0; running = 0; unread = 0; symbols = 0; terminals = 0 } in
-    let r = counted-all chunks fresh refl in
-    rw (c-is, walk-passes t N n few words n-is f 5 fresh after beyond refl refl (omega (arith, total-within f)) d b)
-    (record {
-      ok_is = r.ok_then;
-      at_is = omega (arith, r.at_then);
-      live_is = omega (arith, r.live_then);
-      running_is = omega (arith, r.running_then);
-      unread_is = omega (arith, r.unread_then);
-      symbols_are = omega (arith, r.symbols_then);
-      terminals_are = omega (arith, r.terminals_then);
-    })
+    let r = counted-all chunks fresh_walk in
+    record {
+      walk = walked_all fresh_walk chunks;
+      is = rw c-is (walk-passes t N n few words n-is f 5 fresh_walk after beyond refl (omega (arith, total-within f)) d b);
+      counts = record {
+        at_is = omega (arith, r.at_then);
+        live_is = omega (arith, r.live_then);
+        running_is = omega (arith, r.running_then);
+        unread_is = omega (arith, r.unread_then);
+        symbols_are = omega (arith, r.symbols_then);
+        terminals_are = omega (arith, r.terminals_then);
+      };
+    }
 
 -- (j)
 pub potential-is : {chunks : List (Option (Chunk Span))} {w : Walk} → Counts chunks w → potential_of w ≡ potential_in (live chunks)

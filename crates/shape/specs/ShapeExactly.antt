@@ -5,9 +5,11 @@
 -- Rests on ShapeOfKept, Rules and WalksRead.
 --
 -- Main definitions: HoldsState, Stated. Main statements: shape-state, shape-exactly.
-use Rattle.std.specs.Prelude.{◌≡◌, refl, true, ◌↔◌, List, [], ◌∷◌, ◌++◌, ℕ, zero, suc, ◌+◌, ◌*◌, ◌-◌, ◌/◌, ◌%◌, ◌≤◌, ◌<◌, leb, length, get_or, take, drop}
+use Rattle.std.specs.Prelude.{◌≡◌, refl, true, Some, None, ◌↔◌, List, [], ◌∷◌, ◌++◌, ℕ, zero, suc, ◌+◌, ◌*◌, ◌-◌, ◌/◌, ◌%◌, ◌≤◌, ◌<◌, leb, length, get_or, take, drop}
+use Rattle.std.specs.Prelude as Prelude
 use Rattle.std.proofs.Common.{sym, ap, ap₂, ◌∙◌, zero-add, arith, length-drop}
 use Rattle.std.proofs.Math.Option.{Option}
+use Rattle.std.proofs.lemmas.Bool.{false≢true}
 use Rattle.laws.specs.Tests.{leb-true}
 use Rattle.laws.specs.Picks.{each_of}
 use Rattle.laws.specs.Passed.{both}
@@ -20,12 +22,12 @@ use Rattle.results.specs.Bounded.{most_moves}
 use Rattle.area.specs.declared.shape.Walk.{Walk}
 use Rattle.layout.specs.Layout.{need, front, total, rows, slots, zeros, encode, slots_at, made_at_word}
 use Rattle.layout.specs.Kept.{FirstLive, Kept}
-use Rattle.area.specs.Shape.{rule_c, walk_of, first_fits, end_fits, rule_i, rule_j, potential_of, blank, rule_k, area_in_shape}
+use Rattle.area.specs.Shape.{rule_c, fresh_walk, walk_of, first_fits, end_fits, rule_i, rule_j, potential_of, blank, rule_k, walk_fits, area_in_shape}
 use Rattle.shape.specs.Walks.{AllFit}
 use Rattle.shape.specs.WalksRead.{walk-reads}
 use Rattle.shape.specs.Chunkwise.{tiles-from, ranged-from, fine-from, stuck-from}
 use Rattle.shape.specs.Encoded.{slots_from, area_is}
-use Rattle.shape.specs.Rules.{Counts, total-within, walk-counts, potential-is, first-of, end-of, blank-reads}
+use Rattle.shape.specs.Rules.{Counts, walked-counts, total-within, walk-counts, potential-is, first-of, end-of, blank-reads}
 use Rattle.shape.specs.ShapeOfKept.{shape-complete}
 
 -- an area holds this state, which keeps the rules; only its first words are the state's, the rest may be any
@@ -121,39 +123,38 @@ in-ranges words h =
     }
 
 -- (d) to (h): the chunks of an area
-record Chunked (t N : ℕ) (words : List ℕ) : Type 0 where
+record Chunked (t N : ℕ) (words : List ℕ) (w : Walk) : Type 0 where
   chunks : List (Option (Chunk Span))
   count_is : length chunks ≡ get_or words 1 0
   table_is : drop 5 words ≡ rows 0 chunks ++ slots_from words 0
   slots_are : slots_from words 0 ≡ slots chunks ++ slots_from words (total chunks)
   all_fit : AllFit t N (get_or words 0 0) 0 chunks
-  counts : Counts chunks (walk_of t N words)
+  counts : Counts chunks w
 
-chunked : (t N : ℕ) (words : List ℕ) → t < 256 → InRanges words → (walk_of t N words).ok ≡ true → Chunked t N words
+chunked : (t N : ℕ) (words : List ℕ) → t < 256 → InRanges words → (w : Walk) → walk_of t N words ≡ Some w → Chunked t N words w
 unfolding walk_of
-chunked t N words few i o =
-    let fresh : Walk = record { ok = true; at = 0; live = 0; running = 0; unread = 0; symbols = 0; terminals = 0 } in
-    let r = walk-reads t N (get_or words 0 0) few words refl (omega arith) (get_or words 1 0) 5 fresh (omega arith) o in
+chunked t N words few i w o =
+    let r = walk-reads t N (get_or words 0 0) few words refl (omega arith) (get_or words 1 0) 5 fresh_walk (omega arith) o in
     let table = held_at words 5 (5 * get_or words 1 0) (slots_at words + 4 * 0) (rows 0 r.chunks) r.table_is (omega arith) in
     let held = held_at words (slots_at words + 4 * 0) (4 * total r.chunks) (slots_at words + 4 * total r.chunks) (slots r.chunks) r.slots_are (omega arith) in
+    let passed = walk-counts few r.all_fit words (slots_from words 0) (slots_from words (total r.chunks)) refl (sym r.count_is) table held in
     record {
       chunks = r.chunks;
       count_is = r.count_is;
       table_is = table;
       slots_are = held;
       all_fit = r.all_fit;
-      counts = walk-counts few r.all_fit words (slots_from words 0) (slots_from words (total r.chunks)) refl (sym r.count_is) table held;
+      counts = walked-counts passed o;
     }
 
 -- .. and its reductions
-module _ (t N : ℕ) (words : List ℕ) (i : InRanges words) (k : Chunked t N words) (made : List (Reduction Span)) (m-is : length made ≡ get_or words 4 0) where
+module _ (t N : ℕ) (words : List ℕ) (w : Walk) (i : InRanges words) (k : Chunked t N words w) (made : List (Reduction Span)) (m-is : length made ≡ get_or words 4 0) where
   -- (k): its words are those of a state
   words_of : get_or words 2 0 < 65536 → length made ≤ get_or words 0 0 → take (3 * length made) (drop (made_at_word words) words) ≡ report_words made
-      → rule_k words (walk_of t N words) ≡ true → words ≡ encode (get_or words 0 0) (state_of words k.chunks made) ++ after words k.chunks made
+      → rule_k words w ≡ true → words ≡ encode (get_or words 0 0) (state_of words k.chunks made) ++ after words k.chunks made
   words_of low l q h =
       let n : ℕ = get_or words 0 0 in
       let c : ℕ = total k.chunks in
-      let w : Walk = walk_of t N words in
       let made-from : ℕ = made_at_word words in
       let unused-from : ℕ = made_at_word words + 3 * length made in
       let within : c ≤ n + 2 = total-within k.all_fit in
@@ -170,12 +171,11 @@ module _ (t N : ℕ) (words : List ℕ) (i : InRanges words) (k : Chunked t N wo
 
   -- .. that keeps the rules
   kept_of : words ≡ encode (get_or words 0 0) (state_of words k.chunks made) ++ after words k.chunks made
-      → first_fits words ≡ true → end_fits words (walk_of t N words) ≡ true → rule_i words (walk_of t N words) ≡ true → rule_j words (walk_of t N words) ≡ true
+      → first_fits words ≡ true → end_fits words w ≡ true → rule_i words w ≡ true → rule_j words w ≡ true
       → Kept t N (get_or words 0 0) (state_of words k.chunks made)
   kept_of is p₁ p₂ p₃ p₄ =
       let n : ℕ = get_or words 0 0 in
       let moves : ℕ = get_or words 2 0 + 65536 * get_or words 3 0 in
-      let w : Walk = walk_of t N words in
       let rest : List ℕ = after words k.chunks made in
       let f : FirstLive k.chunks = first-of n moves made rest k.chunks (omega (arith, k.count_is)) (sym (ap first_fits is) ∙ p₁) in
       record {
@@ -196,23 +196,24 @@ module _ (t N : ℕ) (words : List ℕ) (i : InRanges words) (k : Chunked t N wo
 -- an area in shape holds a state that keeps the rules
 pub shape-state : (t N : ℕ) (words : List ℕ) → t < 256 → get_or words 2 0 < 65536 → area_in_shape t N words ≡ true → Stated t N words
 unfolding area_in_shape
-shape-state t N words few low h =
-    let p = both (rule_c words) _ h in
-    let i = in-ranges words p.passes in
-    let w : Walk = walk_of t N words in
-    let r = each_of (w.ok ∷ first_fits words ∷ end_fits words w ∷ rule_i words w ∷ rule_j words w ∷ rule_k words w ∷ []) p.good in
-    let k = chunked t N words few i r.0 in
-    let few-made : get_or words 4 0 + w.terminals ≤ get_or words 0 0 = leb-true _ _ r.1.1.1.0 in
-    let m = threes (get_or words 4 0) (drop (made_at_word words) words) (omega (arith, length-drop (made_at_word words) words, i.long)) in
-    let is = words_of t N words i k m.made m.count_is low (omega (arith, m.count_is)) (rw m.count_is m.words_are) r.1.1.1.1.1.0 in
-    record {
-      state = state_of words k.chunks m.made;
-      holds_state = record {
-        chunks_are = k.count_is;
-        is = is;
-        kept = kept_of t N words i k m.made m.count_is is r.1.0 r.1.1.0 r.1.1.1.0 r.1.1.1.1.0;
-      };
-    }
+shape-state t N words few low h = let p = both (rule_c words) _ h in walked (in-ranges words p.passes) (walk_of t N words) refl p.good
+  where
+    walked : InRanges words → (o : Prelude.Option Walk) → walk_of t N words ≡ o → walk_fits words o ≡ true → Stated t N words
+    walked i None e g = absurd (false≢true g)
+    walked i (Some w) e g =
+        let r = each_of (first_fits words ∷ end_fits words w ∷ rule_i words w ∷ rule_j words w ∷ rule_k words w ∷ []) g in
+        let k = chunked t N words few i w e in
+        let few-made : get_or words 4 0 + w.terminals ≤ get_or words 0 0 = leb-true _ _ r.1.1.0 in
+        let m = threes (get_or words 4 0) (drop (made_at_word words) words) (omega (arith, length-drop (made_at_word words) words, i.long)) in
+        let is = words_of t N words w i k m.made m.count_is low (omega (arith, m.count_is)) (rw m.count_is m.words_are) r.1.1.1.1.0 in
+        record {
+          state = state_of words k.chunks m.made;
+          holds_state = record {
+            chunks_are = k.count_is;
+            is = is;
+            kept = kept_of t N words w i k m.made m.count_is is r.0 r.1.0 r.1.1.0 r.1.1.1.0;
+          };
+        }
 
 -- in shape exactly when the words are those of a state that keeps the rules
 pub shape-exactly : (t N : ℕ) (words : List ℕ) → t < 256 → get_or words 2 0 < 65536 → (area_in_shape t N words ≡ true) ↔ Stated t N words

@@ -21,7 +21,7 @@ use Rattle.area.specs.Shape.{rule_c, walk_of, first_fits, end_fits, rule_i, rule
 use Rattle.shape.specs.Chunkwise.{kept-fits}
 use Rattle.shape.specs.Encoded.{area, slots_from, from_slots, from_unused_slots, from_made, tokens-at, chunks-at, moves-at}
 use Rattle.shape.specs.Encoded.{count_at, table-at, slots-at, unused-slots-at, unused-made-at}
-use Rattle.shape.specs.Rules.{Counts, walk-counts, potential-is, first_to, end-to, blank-zeros}
+use Rattle.shape.specs.Rules.{Counts, Walked, walk-counts, potential-is, first_to, end-to, blank-zeros}
 
 some_chunk : {chunks : List (Option (Chunk Span))} → FirstLive chunks → 1 ≤ length chunks
 some_chunk (first_live h) = omega arith
@@ -30,13 +30,16 @@ module _ {t N n : ℕ} {s : State Span} (few : t < 256) (k : Kept t N n s) (rest
   abbrev words : List ℕ
   words = area n s rest
 
-  abbrev walk : Walk
-  walk = walk_of t N words
-
-  counts : Counts s.chunks walk
-  counts =
+  walked : Walked s.chunks (walk_of t N words)
+  walked =
       walk-counts few (kept-fits k) words (from_slots n s rest) (from_unused_slots n s rest) (tokens-at n s rest) (chunks-at n s rest) (table-at n s rest)
       (slots-at n s rest)
+
+  abbrev walk : Walk
+  walk = walked.walk
+
+  abbrev counts : Counts s.chunks walk
+  counts = walked.counts
 
   rule-c : rule_c words ≡ true
   rule-c =
@@ -74,6 +77,6 @@ module _ {t N n : ℕ} {s : State Span} (few : t < 256) (k : Kept t N n s) (rest
   shape-complete =
       let first = first_to n s.moves s.reductions rest k.first in
       let last = end-to n s.moves s.reductions rest k.first counts (rw (total-is k) k.ending) in
-      rw rule-c
-      (of-each (walk.ok ∷ first_fits words ∷ end_fits words walk ∷ rule_i words walk ∷ rule_j words walk ∷ rule_k words walk ∷ [])
-      (counts.ok_is, (first, (last, (rule-i, (rule-j, (rule-k, tt)))))))
+      rw (rule-c, walked.is)
+      (of-each (first_fits words ∷ end_fits words walk ∷ rule_i words walk ∷ rule_j words walk ∷ rule_k words walk ∷ [])
+      (first, (last, (rule-i, (rule-j, (rule-k, tt))))))

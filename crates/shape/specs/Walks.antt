@@ -5,7 +5,7 @@
 -- Rests on Sides and Rising.
 --
 -- Main definitions: ChunkFits, AllFit, walked_all, Counted. Main statements: walk-passes, counted-all.
-use Rattle.std.specs.Prelude.{◌≡◌, refl, false, List, [], ◌∷◌, ◌++◌, map, reverse, eqb, ltb, length, get_or, drop}
+use Rattle.std.specs.Prelude.{◌≡◌, refl, false, List, [], ◌∷◌, ◌++◌, map, reverse, eqb, ltb, length, get_or, drop, Some, option_and_then}
 use Rattle.std.proofs.Common.{sym, ap, ◌∙◌, append_assoc, add-zero, arith}
 use Rattle.std.proofs.Math.Bool.{true}
 use Rattle.std.proofs.Math.Option.{Option, none, some}
@@ -28,7 +28,7 @@ use Rattle.layout.specs.Kept.{StuckFine, not_stuck, stuck_fine}
 use Rattle.layout.specs.Lengths.{length-stack, length-chunk, length-row}
 use Rattle.shape.specs.Encoded.{slots_from, slots-past}
 use Rattle.area.specs.Shape.{side, status_fits, bounds_fit, stuck_fits, sides_fit, counted, line_of, walked}
-use Rattle.shape.specs.Sides.{rising_words, Placed, placed_end, Scanned, scan-passes}
+use Rattle.shape.specs.Sides.{rising_words, Placed, placed_end, Scanned, Passes, scan-passes}
 use Rattle.shape.specs.Rising.{rising-stack, plain, plain-unread}
 
 -- a live chunk whose first slot is `from`, by rules (d) to (h)
@@ -50,7 +50,6 @@ pub data AllFit (t N n : ℕ) : ℕ → List (Option (Chunk Span)) → Type 0 wh
 -- a walk that has passed a live chunk, and some numbers of the table
 abbrev pub walked_over : Walk → Chunk Span → Walk
 walked_over w c = record {
-  ok = true;
   at = w.at + chunk_size (some c);
   live = w.live + 1;
   running = w.running + one_if_running c.status;
@@ -134,17 +133,17 @@ counted_is w c e ps pu q =
 
 module _ (t N n : ℕ) (few : t < 256) (area : List ℕ) (n-is : get_or area 0 0 ≡ n) where
   pub side-passes : {from to : ℕ} (entries : List (Entry Span)) (words : List ℕ) → Placed t N n from entries to
-      → slots_from area from ≡ rising_words entries ++ words → Scanned entries (side t N area from to)
+      → slots_from area from ≡ rising_words entries ++ words → Passes entries (side t N area from to)
   unfolding side
   side-passes {from} {to} entries words p d =
       let e : to - from ≡ stack_size entries = omega (arith, placed_end p) in
       rw (n-is, e, d) (scan-passes few p words)
 
-  line-passes : (w : Walk) (from : ℕ) (c : Chunk Span) (words : List ℕ) → w.ok ≡ true → w.at ≡ from → ChunkFits t N n from c → from + chunk_size (some c) ≤ n + 2
+  line-passes : (w : Walk) (from : ℕ) (c : Chunk Span) (words : List ℕ) → w.at ≡ from → ChunkFits t N n from c → from + chunk_size (some c) ≤ n + 2
       → slots_from area from ≡ stack_words c.stack ++ (unread_words c.unread ++ words)
-      → line_of t N area w (status_word c.status) from (from + stack_size c.stack) (from + chunk_size (some c)) (marks c.stack) ≡ walked_over w c
+      → line_of t N area w (status_word c.status) from (from + stack_size c.stack) (from + chunk_size (some c)) (marks c.stack) ≡ Some (walked_over w c)
   unfolding line_of
-  line-passes w from c words o q f l d =
+  line-passes w from c words q f l d =
       let head : ℕ = from + stack_size c.stack in
       let end : ℕ = from + chunk_size (some c) in
       let r = rising-stack c.stack in
@@ -154,8 +153,8 @@ module _ (t N n : ℕ) (few : t < 256) (area : List ℕ) (n-is : get_or area 0 0
       let u = side-passes (map plain c.unread) words f.unread_stands (rw p.words_are d₂) in
       let bounds : bounds_fit (get_or area 0 0) w.at from head end ≡ true =
       rw n-is (bounds-fit n w.at from head end q f.begins (omega arith) (omega arith) l) in
-      let sides = sides-fit c head end s u (omega arith) f.stuck_fine in
-      rw (o, status-word c.status, status-fits c.status, bounds, sides) (counted_is w c end s u (omega arith))
+      let sides = sides-fit c head end s.scanned_all u.scanned_all (omega arith) f.stuck_fine in
+      rw (status-word c.status, status-fits c.status, bounds, s.is, u.is, sides) (ap (λ v. Some v) (counted_is w c end s.scanned_all u.scanned_all (omega arith)))
 
   row_read : (i from : ℕ) (c : Option (Chunk Span)) (words : List ℕ) (w : Walk) → drop i area ≡ row from c ++ words
       → line_of t N area w (get_or area i 0) (get_or area (i + 1) 0) (get_or area (i + 2) 0) (get_or area (i + 3) 0) (get_or area (i + 4) 0)
@@ -167,34 +166,33 @@ module _ (t N n : ℕ) (few : t < 256) (area : List ℕ) (n-is : get_or area 0 0
       word : (j : ℕ) → j < 5 → get_or area (i + j) 0 ≡ get_or (row from c) j 0
       word j h = get_d_past area i j (row from c ++ words) d ∙ get_or-append (row from c) words 0 j (omega (arith, length-row from c))
 
-  line-gone : (w : Walk) → w.ok ≡ true → line_of t N area w 0 0 0 0 0 ≡ w
+  line-gone : (w : Walk) → line_of t N area w 0 0 0 0 0 ≡ Some w
   unfolding line_of
-  line-gone w o = rw o
+  line-gone w = refl
 
   -- the table of chunks that fit, from word i on, and their slots
   pub walk-passes : {from : ℕ} {chunks : List (Option (Chunk Span))} → AllFit t N n from chunks → (i : ℕ) (w : Walk) (after beyond : List ℕ)
-      → w.ok ≡ true → w.at ≡ from → from + total chunks ≤ n + 2 → drop i area ≡ rows from chunks ++ after → slots_from area from ≡ slots chunks ++ beyond
-      → walked t N area (length chunks) i w ≡ walked_all w chunks
-  walk-passes no_more_fit i w after beyond o q l d b = refl
-  walk-passes {from} (gone-fits {chunks = chunks} f) i w after beyond o q l d b =
+      → w.at ≡ from → from + total chunks ≤ n + 2 → drop i area ≡ rows from chunks ++ after → slots_from area from ≡ slots chunks ++ beyond
+      → walked t N area (length chunks) i w ≡ Some (walked_all w chunks)
+  walk-passes no_more_fit i w after beyond q l d b = refl
+  walk-passes {from} (gone-fits {chunks = chunks} f) i w after beyond q l d b =
       let z : from + 0 ≡ from = omega arith in
       let d₂ : drop (i + 5) area ≡ rows from chunks ++ after = rw z at (drop_past area i (i + 5) (row from none) (rows (from + 0) chunks ++ after) refl d) in
-      ap (λ v. walked t N area (length chunks) (i + 5) v) (row_read i from none (rows (from + 0) chunks ++ after) w d ∙ line-gone w o)
-      ∙ walk-passes f (i + 5) w after beyond o q (omega arith) d₂ b
-  walk-passes {from} (live_fits {c = c} {chunks = chunks} f fs) i w after beyond o q l d b =
+      ap (λ o. option_and_then (λ v. walked t N area (length chunks) (i + 5) v) o) (row_read i from none (rows (from + 0) chunks ++ after) w d ∙ line-gone w)
+      ∙ walk-passes f (i + 5) w after beyond q (omega arith) d₂ b
+  walk-passes {from} (live_fits {c = c} {chunks = chunks} f fs) i w after beyond q l d b =
       let e : ℕ = from + chunk_size (some c) in
       let d₂ : drop (i + 5) area ≡ rows e chunks ++ after = drop_past area i (i + 5) (row from (some c)) (rows e chunks ++ after) refl d in
       let b₁ : slots_from area from ≡ chunk_words (some c) ++ (slots chunks ++ beyond) = b ∙ append_assoc (chunk_words (some c)) (slots chunks) beyond in
       let b₂ = slots-past area from (chunk_size (some c)) (chunk_words (some c)) (slots chunks ++ beyond) (length-chunk (some c)) b₁ in
       let b₃ = b₁ ∙ append_assoc (stack_words c.stack) (unread_words c.unread) (slots chunks ++ beyond) in
-      ap (λ v. walked t N area (length chunks) (i + 5) v)
-      (row_read i from (some c) (rows e chunks ++ after) w d ∙ line-passes w from c (slots chunks ++ beyond) o q f (omega arith) b₃)
-      ∙ walk-passes fs (i + 5) (walked_over w c) after beyond refl (ap (λ k. k + chunk_size (some c)) q) (omega arith) d₂ b₂
+      ap (λ o. option_and_then (λ v. walked t N area (length chunks) (i + 5) v) o)
+      (row_read i from (some c) (rows e chunks ++ after) w d ∙ line-passes w from c (slots chunks ++ beyond) q f (omega arith) b₃)
+      ∙ walk-passes fs (i + 5) (walked_over w c) after beyond (ap (λ k. k + chunk_size (some c)) q) (omega arith) d₂ b₂
 
 -- ---- what the walk has counted
 
 pub record Counted (chunks : List (Option (Chunk Span))) (w w' : Walk) : Type 0 where
-  pub ok_then : w'.ok ≡ true
   pub at_then : w'.at ≡ w.at + total chunks
   pub live_then : w'.live ≡ w.live + length (live chunks)
   pub running_then : w'.running ≡ w.running + running_in (live chunks)
@@ -202,9 +200,8 @@ pub record Counted (chunks : List (Option (Chunk Span))) (w w' : Walk) : Type 0 
   pub symbols_then : w'.symbols ≡ w.symbols + symbols_in (live chunks)
   pub terminals_then : w'.terminals ≡ w.terminals + terminals_in (live chunks)
 
-pub counted-all : (chunks : List (Option (Chunk Span))) (w : Walk) → w.ok ≡ true → Counted chunks w (walked_all w chunks)
-counted-all [] w o = record {
-  ok_then = o;
+pub counted-all : (chunks : List (Option (Chunk Span))) (w : Walk) → Counted chunks w (walked_all w chunks)
+counted-all [] w = record {
   at_then = omega arith;
   live_then = omega arith;
   running_then = omega arith;
@@ -212,10 +209,9 @@ counted-all [] w o = record {
   symbols_then = omega arith;
   terminals_then = omega arith;
 }
-counted-all (none ∷ chunks) w o =
-    let r = counted-all chunks w o in
+counted-all (none ∷ chunks) w =
+    let r = counted-all chunks w in
     record {
-      ok_then = r.ok_then;
       at_then = omega (arith, r.at_then);
       live_then = r.live_then;
       running_then = r.running_then;
@@ -223,10 +219,9 @@ counted-all (none ∷ chunks) w o =
       symbols_then = r.symbols_then;
       terminals_then = r.terminals_then;
     }
-counted-all (some c ∷ chunks) w o =
-    let r = counted-all chunks (walked_over w c) refl in
+counted-all (some c ∷ chunks) w =
+    let r = counted-all chunks (walked_over w c) in
     record {
-      ok_then = r.ok_then;
       at_then = omega (arith, r.at_then);
       live_then = omega (arith, r.live_then);
       running_then = omega (arith, r.running_then);

@@ -5,11 +5,13 @@
 -- Rests on Walks.
 --
 -- Main definitions: ReadChunks. Main statement: walk-reads.
-use Rattle.std.specs.Prelude.{◌≡◌, Bool, List, [], ◌∷◌, ◌++◌, map, reverse, ℕ, zero, suc, ◌+◌, ◌*◌, ◌-◌, ◌≤◌, ◌<◌, ltb, leb, length, get_or, take, drop}
+use Rattle.std.specs.Prelude.{◌≡◌, Bool, List, [], ◌∷◌, ◌++◌, map, reverse, ℕ, zero, suc, ◌+◌, ◌*◌, ◌-◌, ◌≤◌, ◌<◌, ltb, leb, length, get_or, take, drop, Some, None}
+use Rattle.std.specs.Option.{is_some}
 use Rattle.std.proofs.Math.Path.{refl}
 use Rattle.std.proofs.Common.{sym, ap, ap₂, ◌∙◌, subst, zero-add, add-zero, add-one, arith, take-append-drop, drop-drop, take-add, drop-cons}
 use Rattle.std.proofs.Math.Bool.{true, false}
 use Rattle.std.proofs.lemmas.Bool.{false≢true}
+use Rattle.std.proofs.lemmas.Option.{option_and_then_some}
 use Rattle.std.proofs.lemmas.List.{reverse-reverse}
 use Rattle.std.proofs.Math.Option.{Option, none, some}
 use Rattle.std.proofs.Math.Numerals.{add-two, add-three, add-four, add_five}
@@ -27,41 +29,47 @@ use Rattle.area.specs.declared.shape.Walk.{Walk}
 use Rattle.layout.specs.Layout.{stack_size, stack_words, marks, unread_size, unread_words, chunk_size, chunk_words, status_word, row, total, rows, slots, slots_at}
 use Rattle.layout.specs.Kept.{StuckFine, not_stuck, stuck_fine}
 use Rattle.shape.specs.Encoded.{slots_from}
-use Rattle.area.specs.Shape.{side, side_fits, status_fits, gone_fits, bounds_fit, stuck_fits, sides_fit, fallen, counted, live_line, line_of, walked}
-use Rattle.shape.specs.Sides.{rising_words, placed_end, placed_at, Scanned, HoldsEntries, scan-reads}
+use Rattle.area.specs.Shape.{side, side_fits, status_fits, gone_fits, bounds_fit, stuck_fits, sides_fit, counted, live_line, line_of, walked}
+use Rattle.shape.specs.Blocks.{same-some}
+use Rattle.shape.specs.Sides.{rising_words, placed_end, placed_at, Passes, passes-scan, HoldsEntries, scan-reads}
 use Rattle.shape.specs.Rising.{rising-stack, plain-unread, plain_of}
 use Rattle.shape.specs.Walks.{ChunkFits, AllFit, no_more_fit, gone-fits, live_fits, side-passes}
 
 -- ---- one row of the table
 
--- a row that a walk lets pass: zeros, or a live chunk's
+-- a row that a walk lets pass, and the walk then: zeros, or a live chunk's
 data LineView (t N : ℕ) (area : List ℕ) (w : Walk) (x f h e y : ℕ) : Walk → Type 0 where
-  gone_line : w.ok ≡ true → x ≡ 0 → gone_fits f h e y ≡ true → LineView t N area w x f h e y w
-  live-line : w.ok ≡ true → status_fits x ≡ true → bounds_fit (get_or area 0 0) w.at f h e ≡ true
-      → sides_fit (side t N area f h) (side t N area h e) x h e y ≡ true
-      → LineView t N area w x f h e y (counted w (side t N area f h) (side t N area h e) x e)
+  gone_line : x ≡ 0 → gone_fits f h e y ≡ true → LineView t N area w x f h e y w
+  live-line : {stack unread : Scan} → status_fits x ≡ true → bounds_fit (get_or area 0 0) w.at f h e ≡ true
+      → side t N area f h ≡ Some stack → side t N area h e ≡ Some unread → sides_fit stack unread x h e y ≡ true
+      → LineView t N area w x f h e y (counted w stack unread x e)
 
-abbrev is_ok : Walk → Bool
-is_ok w = w.ok
-
-module _ (t N : ℕ) (area : List ℕ) (w : Walk) (x f h e y : ℕ) where
-  live_view : w.ok ≡ true → (live_line t N area w x f h e y).ok ≡ true → LineView t N area w x f h e y (live_line t N area w x f h e y)
-  live_view o q =
-      let p₁ = must-pass is_ok fallen refl (status_fits x) _ q in
-      let p₂ = must-pass is_ok fallen refl (bounds_fit (get_or area 0 0) w.at f h e) _ p₁.good in
-      let p₃ = must-pass is_ok fallen refl (sides_fit (side t N area f h) (side t N area h e) x h e y) _ p₂.good in
-      rw (p₁.is ∙ p₂.is ∙ p₃.is) (live-line o p₁.passes p₂.passes p₃.passes)
-
-  line_view : (line_of t N area w x f h e y).ok ≡ true → LineView t N area w x f h e y (line_of t N area w x f h e y)
-  unfolding line_of
-  line_view q =
-      let p = must-pass is_ok fallen refl w.ok _ q in
-      rw p.is (go (eqb x 0) refl p.passes p.good)
+module _ (t N : ℕ) (area : List ℕ) (w : Walk) (x f h e y : ℕ) {then : Walk} where
+  live_view : live_line t N area w x f h e y ≡ Some then → LineView t N area w x f h e y then
+  live_view q =
+      let p₁ = must-pass is_some None refl (status_fits x) _ (ap is_some q) in
+      let p₂ = must-pass is_some None refl (bounds_fit (get_or area 0 0) w.at f h e) _ p₁.good in
+      option_and_then_some _ (side t N area f h) then (sym (p₁.is ∙ p₂.is) ∙ q)
+      (λ stack below r. option_and_then_some _ (side t N area h e) then r
+      (λ unread above u. with_sides stack unread p₁.passes p₂.passes below above u))
     where
-      go : (b : Bool) → eqb x 0 ≡ b → w.ok ≡ true → (pick b (pick (gone_fits f h e y) w fallen) (live_line t N area w x f h e y)).ok ≡ true
-          → LineView t N area w x f h e y (pick b (pick (gone_fits f h e y) w fallen) (live_line t N area w x f h e y))
-      go true z o q = let p = must-pass is_ok fallen refl (gone_fits f h e y) _ q in rw p.is (gone_line o (eqb-true x 0 z) p.passes)
-      go false z o q = live_view o q
+      with_sides : (stack unread : Scan) → status_fits x ≡ true → bounds_fit (get_or area 0 0) w.at f h e ≡ true
+          → side t N area f h ≡ Some stack → side t N area h e ≡ Some unread
+          → pick (sides_fit stack unread x h e y) (Some (counted w stack unread x e)) None ≡ Some then → LineView t N area w x f h e y then
+      with_sides stack unread s b below above u =
+          let p = must-pass is_some None refl (sides_fit stack unread x h e y) _ (ap is_some u) in
+          subst (λ v. LineView t N area w x f h e y v) (same-some (sym p.is ∙ u)) (live-line s b below above p.passes)
+
+  line_view : line_of t N area w x f h e y ≡ Some then → LineView t N area w x f h e y then
+  unfolding line_of
+  line_view = go (eqb x 0) refl
+    where
+      go : (b : Bool) → eqb x 0 ≡ b → pick b (pick (gone_fits f h e y) (Some w) None) (live_line t N area w x f h e y) ≡ Some then
+          → LineView t N area w x f h e y then
+      go true z q =
+          let p = must-pass is_some None refl (gone_fits f h e y) _ (ap is_some q) in
+          subst (λ v. LineView t N area w x f h e y v) (same-some (sym p.is ∙ q)) (gone_line (eqb-true x 0 z) p.passes)
+      go false z q = live_view q
 
 -- ---- a live chunk's row
 
@@ -146,7 +154,7 @@ as-unread entries h =
     record { words_are = sym r.words_are ∙ ap rising_words (plain_of entries h); size_is = sym r.size_is ∙ ap stack_size (plain_of entries h) }
 
 module _ (t N n : ℕ) (few : t < 256) (area : List ℕ) (n-is : get_or area 0 0 ≡ n) (long : slots_at area + 4 * (n + 2) ≤ length area) where
-  holds-scanned : {from to : ℕ} (s : HoldsEntries t N n from to (slots_from area from)) → Scanned s.entries (side t N area from to)
+  holds-scanned : {from to : ℕ} (s : HoldsEntries t N n from to (slots_from area from)) → Passes s.entries (side t N area from to)
   holds-scanned {from} {to} s =
       let k : ℕ = 4 * stack_size s.entries in
       let words : List ℕ = slots_from area from in
@@ -180,27 +188,26 @@ module _ (t N n : ℕ) (few : t < 256) (area : List ℕ) (n-is : get_or area 0 0
         };
       }
 
-  side-reads : (from to : ℕ) → from ≤ to → to ≤ n + 2 → side_fits (side t N area from to) ≡ true → HoldsEntries t N n from to (slots_from area from)
+  side-reads : (from to : ℕ) → from ≤ to → to ≤ n + 2 → {end : Scan} → side t N area from to ≡ Some end → side_fits end ≡ true
+      → HoldsEntries t N n from to (slots_from area from)
   unfolding side
-  side-reads from to h l e =
-      scan-reads from to (slots_from area from) h (omega (arith, length-drop (slots_at area + 4 * from) area)) (rw n-is at e)
+  side-reads from to h l e f =
+      scan-reads from to (slots_from area from) h (omega (arith, length-drop (slots_at area + 4 * from) area)) (rw n-is at e) f
 
   -- .. from the tests of its row
-  live-read : (from x f h e y : ℕ) → status_fits x ≡ true → bounds_fit (get_or area 0 0) from f h e ≡ true
-      → sides_fit (side t N area f h) (side t N area h e) x h e y ≡ true → LiveChunk t N n area from x f h e y
-  live-read from x f h e y i b k =
+  live-read : (from x f h e y : ℕ) {below above : Scan} → status_fits x ≡ true → bounds_fit (get_or area 0 0) from f h e ≡ true
+      → side t N area f h ≡ Some below → side t N area h e ≡ Some above → sides_fit below above x h e y ≡ true → LiveChunk t N n area from x f h e y
+  live-read from x f h e y {below} {above} i b below-is above-is k =
       let bs = each_of (eqb f from ∷ leb f (get_or area 0 0 + 1) ∷ leb f h ∷ leb h e ∷ leb e (get_or area 0 0 + 2) ∷ []) b in
-      let below : Scan = side t N area f h in
-      let above : Scan = side t N area h e in
       let ks = each_of (side_fits below ∷ side_fits above ∷ eqb above.marks 0 ∷ eqb y below.marks ∷ stuck_fits x h e y ∷ []) k in
       let low : f ≤ n + 1 = rw n-is at (leb-true f (get_or area 0 0 + 1) bs.1.0) in
       let p : f ≤ h = leb-true f h bs.1.1.0 in
       let q : h ≤ e = leb-true h e bs.1.1.1.0 in
       let last : e ≤ n + 2 = rw n-is at (leb-true e (get_or area 0 0 + 2) bs.1.1.1.1.0) in
-      let s = side-reads f h p (omega arith) ks.0 in
-      let u = side-reads h e q last ks.1.0 in
-      let y-is = eqb-true y below.marks ks.1.1.1.0 ∙ (holds-scanned s).marks_are in
-      let none-marked = sym (holds-scanned u).marks_are ∙ eqb-true above.marks 0 ks.1.1.0 in
+      let s = side-reads f h p (omega arith) below-is ks.0 in
+      let u = side-reads h e q last above-is ks.1.0 in
+      let y-is = eqb-true y below.marks ks.1.1.1.0 ∙ (passes-scan (holds-scanned s) below-is).marks_are in
+      let none-marked = sym (passes-scan (holds-scanned u) above-is).marks_are ∙ eqb-true above.marks 0 ks.1.1.0 in
       subst (λ v. LiveChunk t N n area v x f h e y) (eqb-true f from bs.0)
       (live-chunk f x h e y (status-of x i) low p q s u y-is none-marked ks.1.1.1.1.0)
 
@@ -208,7 +215,6 @@ module _ (t N n : ℕ) (few : t < 256) (area : List ℕ) (n-is : get_or area 0 0
 
 -- the chunks of the `count` rows from word i on, and of the slots from where the walk stands
 pub record ReadChunks (t N n : ℕ) (area : List ℕ) (count i : ℕ) (w : Walk) : Type 0 where
-  pub ok_now : w.ok ≡ true
   pub chunks : List (Option (Chunk Span))
   pub count_is : length chunks ≡ count
   pub table_is : take (5 * count) (drop i area) ≡ rows w.at chunks
@@ -230,11 +236,10 @@ module _ (t N n : ℕ) (few : t < 256) (area : List ℕ) (n-is : get_or area 0 0
   -- one row more in front: a number that is gone
   read-gone : (count i : ℕ) (w : Walk) (x f h e y : ℕ)
       → take (5 * suc count) (drop i area) ≡ (x ∷ f ∷ h ∷ e ∷ y ∷ []) ++ take (5 * count) (drop (i + 5) area)
-      → w.ok ≡ true → x ≡ 0 → gone_fits f h e y ≡ true → ReadChunks t N n area count (i + 5) w → ReadChunks t N n area (suc count) i w
-  read-gone count i w x f h e y d o z g r =
+      → x ≡ 0 → gone_fits f h e y ≡ true → ReadChunks t N n area count (i + 5) w → ReadChunks t N n area (suc count) i w
+  read-gone count i w x f h e y d z g r =
       let gs = each_of (eqb f 0 ∷ eqb h 0 ∷ eqb e 0 ∷ eqb y 0 ∷ []) g in
       record {
-        ok_now = o;
         chunks = none ∷ r.chunks;
         count_is = ap suc r.count_is;
         table_is =
@@ -246,14 +251,13 @@ module _ (t N n : ℕ) (few : t < 256) (area : List ℕ) (n-is : get_or area 0 0
   -- .. a live chunk
   read_live : (count i : ℕ) (w w₁ : Walk) (x f h e y : ℕ)
       → take (5 * suc count) (drop i area) ≡ (x ∷ f ∷ h ∷ e ∷ y ∷ []) ++ take (5 * count) (drop (i + 5) area)
-      → w.ok ≡ true → w₁.at ≡ e → LiveChunk t N n area w.at x f h e y → ReadChunks t N n area count (i + 5) w₁ → ReadChunks t N n area (suc count) i w
-  read_live count i w w₁ x f h e y d o q k r =
+      → w₁.at ≡ e → LiveChunk t N n area w.at x f h e y → ReadChunks t N n area count (i + 5) w₁ → ReadChunks t N n area (suc count) i w
+  read_live count i w w₁ x f h e y d q k r =
       let a : ℕ = chunk_size (some k.chunk) in
       let b : ℕ = total r.chunks in
       let at_is : w₁.at ≡ w.at + a = q ∙ k.end_is in
       let rest : take (4 * b) (slots_from area (w.at + a)) ≡ slots r.chunks = rw at_is at r.slots_are in
       record {
-        ok_now = o;
         chunks = some k.chunk ∷ r.chunks;
         count_is = ap suc r.count_is;
         table_is = d ∙ ap₂ (λ p l. p ++ l) k.row_is (r.table_is ∙ ap (λ j. rows j r.chunks) at_is);
@@ -264,14 +268,15 @@ module _ (t N n : ℕ) (few : t < 256) (area : List ℕ) (n-is : get_or area 0 0
   read_more : (count i : ℕ) {x f h e y : ℕ} {w w₁ : Walk} → LineView t N area w x f h e y w₁
       → take (5 * suc count) (drop i area) ≡ (x ∷ f ∷ h ∷ e ∷ y ∷ []) ++ take (5 * count) (drop (i + 5) area)
       → ReadChunks t N n area count (i + 5) w₁ → ReadChunks t N n area (suc count) i w
-  read_more count i {x} {f} {h} {e} {y} {w} (gone_line o z g) d r = read-gone count i w x f h e y d o z g r
-  read_more count i {x} {f} {h} {e} {y} {w} (live-line o s b k) d r =
-      read_live count i w _ x f h e y d o refl (live-read t N n few area n-is long w.at x f h e y s b k) r
+  read_more count i {x} {f} {h} {e} {y} {w} (gone_line z g) d r = read-gone count i w x f h e y d z g r
+  read_more count i {x} {f} {h} {e} {y} {w} (live-line s b p q k) d r =
+      read_live count i w _ x f h e y d refl (live-read t N n few area n-is long w.at x f h e y s b p q k) r
 
   -- a table that the walk lets pass
-  pub walk-reads : (count i : ℕ) (w : Walk) → i + 5 * count ≤ length area → (walked t N area count i w).ok ≡ true → ReadChunks t N n area count i w
-  walk-reads zero i w l h = record { ok_now = h; chunks = []; count_is = refl; table_is = refl; slots_are = refl; all_fit = no_more_fit }
-  walk-reads (suc count) i w l h =
+  pub walk-reads : (count i : ℕ) (w : Walk) {end : Walk} → i + 5 * count ≤ length area → walked t N area count i w ≡ Some end → ReadChunks t N n area count i w
+  walk-reads zero i w l h = record { chunks = []; count_is = refl; table_is = refl; slots_are = refl; all_fit = no_more_fit }
+  walk-reads (suc count) i w {end} l h =
       let x : ℕ → ℕ = λ k. get_or area (i + k) 0 in
-      let r = walk-reads count (i + 5) (line_of t N area w (get_or area i 0) (x 1) (x 2) (x 3) (x 4)) (omega arith) h in
-      read_more count i (line_view t N area w (get_or area i 0) (x 1) (x 2) (x 3) (x 4) r.ok_now) (five-more count i area (omega arith)) r
+      option_and_then_some (λ v. walked t N area count (i + 5) v) (line_of t N area w (get_or area i 0) (x 1) (x 2) (x 3) (x 4)) end h
+      (λ next p q. read_more count i (line_view t N area w (get_or area i 0) (x 1) (x 2) (x 3) (x 4) p) (five-more count i area (omega arith))
+      (walk-reads count (i + 5) next (omega arith) q))

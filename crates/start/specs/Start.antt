@@ -5,15 +5,14 @@
 --
 -- Main definitions: start_answer, start_area.
 -- Main statements: bad-state-given, empty-given, too-long-given, bad-token-given, bad-cut-given, start-room-given, starts-exactly.
-use Rattle.std.specs.Prelude.{◌≡◌, refl, Bool, true, false, ◌||◌, ◌↔◌, List, [], ◌∷◌, ◌++◌, ℕ, zero, suc, ◌+◌, ◌≤◌, ◌<◌, ltb, eqb, length, get_or, drop}
+use Rattle.std.specs.Prelude.{◌≡◌, refl, Bool, true, false, ◌||◌, ◌↔◌, List, [], ◌∷◌, ◌++◌, ℕ, zero, suc, ◌+◌, ◌≤◌, ◌<◌, ltb, eqb, length, get_or, drop, Ok, Err}
 use Rattle.std.proofs.Common.{sym, ◌∙◌, true≢false, arith}
 use Rattle.std.proofs.lemmas.Bool.{false≢true}
 use Rattle.std.proofs.Math.Option.{none, some}
 use Rattle.laws.specs.Least.{Least, Nowhere, Finds, nowhere, least, first_below, first_finds}
 use Rattle.laws.specs.Tests.{ltb-true, ltb-false, lt-ltb, eqb-true}
 use Rattle.refusals.specs.declared.Refusal.TheVariants.{BadState, Empty, TooLong, BadToken, BadCut, NoRoom}
-use Rattle.refusals.specs.declared.Answer.{Answer}
-use Rattle.refusals.specs.declared.Answer.TheVariants.{Done, Refused}
+use Rattle.refusals.specs.Answers.{Answer}
 use Rattle.language.specs.Words.{count_t, Outside, outside}
 use Rattle.language.proofs.Words.{outside-iff}
 use Rattle.language.specs.Stages.{Stage, checked, Condition, stages_of, Ready, ready, finding, Given, passes_all, fails, passes, failing}
@@ -109,8 +108,8 @@ start_answer words matrix tokens cuts room =
 
 -- the lent area afterwards: the words of the row's start and then what stood beyond; on a refusal as it was
 abbrev pub started_area : Answer → List ℕ → List ℕ → List ℕ → List ℕ
-started_area Done tokens cuts area = encode (length tokens) (start tokens cuts) ++ drop (need (length tokens) (length cuts + 1)) area
-started_area (Refused refusal) tokens cuts area = area
+started_area (Ok _) tokens cuts area = encode (length tokens) (start tokens cuts) ++ drop (need (length tokens) (length cuts + 1)) area
+started_area (Err refusal) tokens cuts area = area
 
 unfoldable pub start_area : List ℕ → List ℕ → List ℕ → List ℕ → List ℕ → List ℕ
 start_area words matrix tokens cuts area = started_area (start_answer words matrix tokens cuts (length area)) tokens cuts area
@@ -213,16 +212,16 @@ pub record Startable (input : StartInput) : Type 0 where
 
 -- which check answers, and that those before it pass: `Given`, taken apart once for all the statements below
 data Told (input : StartInput) : Answer → Type 0 where
-  told_shape : {v : ℕ} → Least (GrammarBroken input) v → Told input (Refused BadState)
-  told_empty : {v : ℕ} → Nowhere (GrammarBroken input) → Least (NoTokens input) v → Told input (Refused Empty)
-  told_length : {v : ℕ} → Nowhere (GrammarBroken input) → Nowhere (NoTokens input) → Least (TooMany input) v → Told input (Refused TooLong)
+  told_shape : {v : ℕ} → Least (GrammarBroken input) v → Told input (Err BadState)
+  told_empty : {v : ℕ} → Nowhere (GrammarBroken input) → Least (NoTokens input) v → Told input (Err Empty)
+  told_length : {v : ℕ} → Nowhere (GrammarBroken input) → Nowhere (NoTokens input) → Least (TooMany input) v → Told input (Err TooLong)
   told_token : {v : ℕ} → Nowhere (GrammarBroken input) → Nowhere (NoTokens input) → Nowhere (TooMany input) → Least (WrongToken input) v
-      → Told input (Refused (BadToken v))
+      → Told input (Err (BadToken v))
   told_cut : {v : ℕ} → Nowhere (GrammarBroken input) → Nowhere (NoTokens input) → Nowhere (TooMany input) → Nowhere (WrongToken input) → Least (WrongCut input) v
-      → Told input (Refused (BadCut v))
+      → Told input (Err (BadCut v))
   told_room : {v : ℕ} → Nowhere (GrammarBroken input) → Nowhere (NoTokens input) → Nowhere (TooMany input) → Nowhere (WrongToken input) → Nowhere (WrongCut input)
-      → Least (NoRoomForRow input) v → Told input (Refused (NoRoom v))
-  told_done : Startable input → Told input Done
+      → Least (NoRoomForRow input) v → Told input (Err (NoRoom v))
+  told_done : Startable input → Told input (Ok tt)
 
 told : (input : StartInput) {answer : Answer} → Given input start_conditions answer → Told input answer
 told input (fails l) = told_shape l
@@ -243,38 +242,38 @@ module _ (words matrix tokens cuts : List ℕ) (room : ℕ) where
   by answer = given-exactly lent (start-ready lent) answer
 
   -- 15 is given exactly when the grammar or the matrix breaks a shape rule
-  pub bad-state-given : (start_answer words matrix tokens cuts room ≡ Refused BadState) ↔ (grammar_in_shape words matrix ≡ false)
+  pub bad-state-given : (start_answer words matrix tokens cuts room ≡ Err BadState) ↔ (grammar_in_shape words matrix ≡ false)
   bad-state-given = (
-    λ e. out (told lent ((by (Refused BadState)).0 e)),
-    λ f. (by (Refused BadState)).1
+    λ e. out (told lent ((by (Err BadState)).0 e)),
+    λ f. (by (Err BadState)).1
         (fails {v = 0} (record { holds = grammar_broken f refl; least = λ u h g. absurd (omega arith) })),
   )
     where
       broken : {v : ℕ} → GrammarBroken lent v → grammar_in_shape words matrix ≡ false
       broken (grammar_broken f q) = f
 
-      out : Told lent (Refused BadState) → grammar_in_shape words matrix ≡ false
+      out : Told lent (Err BadState) → grammar_in_shape words matrix ≡ false
       out (told_shape l) = broken l.holds
 
   -- 7 is given exactly when 15 is not and there are no tokens
-  pub empty-given : (start_answer words matrix tokens cuts room ≡ Refused Empty) ↔ (Nowhere (GrammarBroken lent) × (length tokens ≡ 0))
+  pub empty-given : (start_answer words matrix tokens cuts room ≡ Err Empty) ↔ (Nowhere (GrammarBroken lent) × (length tokens ≡ 0))
   empty-given = (
-    λ e. out (told lent ((by (Refused Empty)).0 e)),
-    λ l. (by (Refused Empty)).1
+    λ e. out (told lent ((by (Err Empty)).0 e)),
+    λ l. (by (Err Empty)).1
         (passes l.0 (fails {v = 0} (record { holds = no_tokens l.1 refl; least = λ u h g. absurd (omega arith) }))),
   )
     where
       empty : {v : ℕ} → NoTokens lent v → length tokens ≡ 0
       empty (no_tokens e q) = e
 
-      out : Told lent (Refused Empty) → Nowhere (GrammarBroken lent) × (length tokens ≡ 0)
+      out : Told lent (Err Empty) → Nowhere (GrammarBroken lent) × (length tokens ≡ 0)
       out (told_empty a l) = (a, empty l.holds)
 
   -- 8 is given exactly when 15 is not and there are more than 16,384 tokens
-  pub too-long-given : (start_answer words matrix tokens cuts room ≡ Refused TooLong) ↔ (Nowhere (GrammarBroken lent) × (16384 < length tokens))
+  pub too-long-given : (start_answer words matrix tokens cuts room ≡ Err TooLong) ↔ (Nowhere (GrammarBroken lent) × (16384 < length tokens))
   too-long-given = (
-    λ e. out (told lent ((by (Refused TooLong)).0 e)),
-    λ l. (by (Refused TooLong)).1
+    λ e. out (told lent ((by (Err TooLong)).0 e)),
+    λ l. (by (Err TooLong)).1
         (passes l.0 (passes (some_of l.1) (fails {v = 0} (record { holds = too_many l.1 refl; least = λ u h g. absurd (omega arith) })))),
   )
     where
@@ -284,54 +283,54 @@ module _ (words matrix tokens cuts : List ℕ) (room : ℕ) where
       many : {v : ℕ} → TooMany lent v → 16384 < length tokens
       many (too_many h q) = h
 
-      out : Told lent (Refused TooLong) → Nowhere (GrammarBroken lent) × (16384 < length tokens)
+      out : Told lent (Err TooLong) → Nowhere (GrammarBroken lent) × (16384 < length tokens)
       out (told_length a b l) = (a, many l.holds)
 
   -- 9 is given at v exactly when 15, 7 and 8 are not, and v is the first place with a token outside 1..T
-  pub bad-token-given : (v : ℕ) → (start_answer words matrix tokens cuts room ≡ Refused (BadToken v))
+  pub bad-token-given : (v : ℕ) → (start_answer words matrix tokens cuts room ≡ Err (BadToken v))
       ↔ (Nowhere (GrammarBroken lent) × Nowhere (NoTokens lent) × Nowhere (TooMany lent) × Least (WrongToken lent) v)
-  bad-token-given v = (λ e. out (told lent ((by (Refused (BadToken v))).0 e)), λ l. (by (Refused (BadToken v))).1 (passes l.0 (passes l.1 (passes l.2 (fails l.3)))))
+  bad-token-given v = (λ e. out (told lent ((by (Err (BadToken v))).0 e)), λ l. (by (Err (BadToken v))).1 (passes l.0 (passes l.1 (passes l.2 (fails l.3)))))
     where
-      out : Told lent (Refused (BadToken v)) → Nowhere (GrammarBroken lent) × Nowhere (NoTokens lent) × Nowhere (TooMany lent) × Least (WrongToken lent) v
+      out : Told lent (Err (BadToken v)) → Nowhere (GrammarBroken lent) × Nowhere (NoTokens lent) × Nowhere (TooMany lent) × Least (WrongToken lent) v
       out (told_token a b c l) = (a, b, c, l)
 
   -- 10 is given at v exactly when 15 and 7 to 9 are not, and there are more than 63 cuts and v is 63, or v is the first bad cut's index
-  pub bad-cut-given : (v : ℕ) → (start_answer words matrix tokens cuts room ≡ Refused (BadCut v))
+  pub bad-cut-given : (v : ℕ) → (start_answer words matrix tokens cuts room ≡ Err (BadCut v))
       ↔ (Nowhere (GrammarBroken lent) × Nowhere (NoTokens lent) × Nowhere (TooMany lent) × Nowhere (WrongToken lent) × Least (WrongCut lent) v)
   bad-cut-given v =
-      (λ e. out (told lent ((by (Refused (BadCut v))).0 e)), λ l. (by (Refused (BadCut v))).1 (passes l.0 (passes l.1 (passes l.2 (passes l.3 (fails l.4))))))
+      (λ e. out (told lent ((by (Err (BadCut v))).0 e)), λ l. (by (Err (BadCut v))).1 (passes l.0 (passes l.1 (passes l.2 (passes l.3 (fails l.4))))))
     where
-      out : Told lent (Refused (BadCut v))
+      out : Told lent (Err (BadCut v))
           → Nowhere (GrammarBroken lent) × Nowhere (NoTokens lent) × Nowhere (TooMany lent) × Nowhere (WrongToken lent) × Least (WrongCut lent) v
       out (told_cut a b c d l) = (a, b, c, d, l)
 
   -- 11 is given, with the words needed, exactly when 15 and 7 to 10 are not and the area has fewer
-  pub start-room-given : (v : ℕ) → (start_answer words matrix tokens cuts room ≡ Refused (NoRoom v))
+  pub start-room-given : (v : ℕ) → (start_answer words matrix tokens cuts room ≡ Err (NoRoom v))
       ↔ (Nowhere (GrammarBroken lent) × Nowhere (NoTokens lent) × Nowhere (TooMany lent) × Nowhere (WrongToken lent) × Nowhere (WrongCut lent)
       × (room < needed lent) × (v ≡ needed lent))
-  start-room-given v = (λ e. out (told lent ((by (Refused (NoRoom v))).0 e)), λ l. back l.0 l.1 l.2 l.3 l.4 l.5 l.6)
+  start-room-given v = (λ e. out (told lent ((by (Err (NoRoom v))).0 e)), λ l. back l.0 l.1 l.2 l.3 l.4 l.5 l.6)
     where
       short : {u : ℕ} → NoRoomForRow lent u → (room < needed lent) × (u ≡ needed lent)
       short (no_room h q) = (h, q)
 
-      out : Told lent (Refused (NoRoom v))
+      out : Told lent (Err (NoRoom v))
           → Nowhere (GrammarBroken lent) × Nowhere (NoTokens lent) × Nowhere (TooMany lent) × Nowhere (WrongToken lent) × Nowhere (WrongCut lent)
           × (room < needed lent) × (v ≡ needed lent)
       out (told_room a b c d e l) = (a, b, c, d, e, (short l.holds).0, (short l.holds).1)
 
       back : Nowhere (GrammarBroken lent) → Nowhere (NoTokens lent) → Nowhere (TooMany lent) → Nowhere (WrongToken lent) → Nowhere (WrongCut lent)
-          → room < needed lent → v ≡ needed lent → start_answer words matrix tokens cuts room ≡ Refused (NoRoom v)
+          → room < needed lent → v ≡ needed lent → start_answer words matrix tokens cuts room ≡ Err (NoRoom v)
       back a b c d e h q =
           let once : Least (NoRoomForRow lent) v = record { holds = no_room h q; least = λ u l n. let z = (short n).1 in omega arith } in
-          (by (Refused (NoRoom v))).1 (passes a (passes b (passes c (passes d (passes e (fails once))))))
+          (by (Err (NoRoom v))).1 (passes a (passes b (passes c (passes d (passes e (fails once))))))
 
   -- start succeeds exactly when none of the conditions holds anywhere
-  pub starts-exactly : (start_answer words matrix tokens cuts room ≡ Done) ↔ Startable lent
+  pub starts-exactly : (start_answer words matrix tokens cuts room ≡ Ok tt) ↔ Startable lent
   starts-exactly = (
-    λ e. out (told lent ((by Done).0 e)),
-    λ s. (by Done).1 (passes s.in-shape (passes s.some_token (passes s.few_tokens (passes s.right_tokens (passes s.right_cuts
+    λ e. out (told lent ((by (Ok tt)).0 e)),
+    λ s. (by (Ok tt)).1 (passes s.in-shape (passes s.some_token (passes s.few_tokens (passes s.right_tokens (passes s.right_cuts
         (passes s.room_enough passes_all)))))),
   )
     where
-      out : Told lent Done → Startable lent
+      out : Told lent (Ok tt) → Startable lent
       out (told_done s) = s

@@ -3,11 +3,13 @@
 -- Document 01: "Start checks 15 .., 7, 8, 9, 10, 11"; the table's "first such place" and "63, else first bad cut's index".
 -- Rests on Start and StartKept, on laws' Least, and on language's Stages.
 --
--- Main definitions: place_below, bad_tokens, bad_cuts, fits_at, Writable.
--- Main statements: stopped, passed (what a search has found); the answer, check by check: broken-grammar, no_token, many-tokens, bad-token,
+-- Main definitions: found, bad_tokens, bad_cuts, Writable.
+-- Main statements: stopped, passed (what a search has found), first-position (the library's search); the answer, check by check: broken-grammar, no_token, many-tokens, bad-token,
 -- bad-cut, small-room, enough-room; writable, right_cuts (what holds where nothing is refused).
-use Rattle.std.specs.Prelude.{◌≡◌, refl, Bool, true, false, not, ◌||◌, List, [], ◌∷◌, ℕ, ◌+◌, ◌≤◌, ◌<◌, ltb, eqb, length, get_or}
-use Rattle.std.proofs.Common.{sym, ◌∙◌, add-one, arith}
+use Rattle.std.specs.Prelude.{◌≡◌, refl, Bool, true, false, not, cond, ◌||◌, List, [], ◌∷◌, ℕ, zero, suc, ◌+◌, ◌≤◌, ◌<◌, ltb, eqb, length, get_or, Some, None, position, Ok, Err}
+use Rattle.std.specs.Prelude as Prelude
+use Rattle.std.specs.List.{position_or_len}
+use Rattle.std.proofs.Common.{sym, ◌∙◌, add-one, one-add, arith}
 use Rattle.std.proofs.Math.Path.{ap}
 use Rattle.std.proofs.lemmas.Bool.{false≢true}
 use Rattle.std.proofs.Math.Option.{Option, none, some}
@@ -17,8 +19,7 @@ use Rattle.laws.specs.Least.{first_below, first-at, first-nowhere}
 pub use Rattle.laws.specs.Least.{Clear, clear-more}
 use Rattle.laws.specs.Tests.{lt-ltb, le-ltb, eq-eqb, ne_eqb}
 use Rattle.refusals.specs.declared.Refusal.TheVariants.{BadState, Empty, TooLong, BadToken, BadCut, NoRoom}
-use Rattle.refusals.specs.declared.Answer.{Answer}
-use Rattle.refusals.specs.declared.Answer.TheVariants.{Done, Refused}
+use Rattle.refusals.specs.Answers.{Answer}
 use Rattle.language.specs.Words.{count_t}
 use Rattle.language.specs.Stages.{refused_by, failing}
 use Rattle.language.specs.Checks.{check_symbols}
@@ -29,15 +30,10 @@ use Rattle.start.specs.StartKept.{GoodCuts, few_tokens, few_cuts, cut-within, cu
 
 -- ---- the searches of 9 and 10
 
--- what a search that has stopped at place i has found below n
-abbrev pub place_below : ℕ → ℕ → Option ℕ
-place_below i n = failing (ltb i n) i
-
-pub place-there : {i n : ℕ} → i < n → place_below i n ≡ some i
-place-there {i} {n} h = rw (lt-ltb i n h)
-
-pub place-beyond : {i n : ℕ} → n ≤ i → place_below i n ≡ none
-place-beyond {i} {n} h = rw (le-ltb i n h)
+-- the answer of a search, as one of a stage
+abbrev pub found : Prelude.Option ℕ → Option ℕ
+found None = none
+found (Some i) = some i
 
 -- 9: the first bad token
 abbrev pub bad_tokens : ℕ → List ℕ → Option ℕ
@@ -49,15 +45,39 @@ bad_cuts n cuts = elim (ltb 63 (length cuts)) [ true ↦ some 63 | false ↦ fir
 
 -- a search that goes up from 0 has stopped at a bad place, or passed all
 module _ (bad : ℕ → Bool) (n i : ℕ) (clear : Clear bad i) where
-  pub stopped : i < n → bad i ≡ true → first_below bad n ≡ place_below i n
-  stopped h e = first-at bad n i h clear e ∙ sym (place-there h)
+  pub stopped : i < n → bad i ≡ true → first_below bad n ≡ found (Some i)
+  stopped h e = first-at bad n i h clear e
 
-  pub passed : n ≤ i → first_below bad n ≡ place_below i n
-  passed h = first-nowhere bad n i h clear ∙ sym (place-beyond h)
+  pub passed : n ≤ i → first_below bad n ≡ found None
+  passed h = first-nowhere bad n i h clear
 
--- the token at place i is within 1..t
-abbrev pub fits_at : ℕ → List ℕ → ℕ → Bool
-fits_at t tokens i = not (bad_token_at t tokens i)
+-- the search for the first element of a list that passes a test
+module _ (test : ℕ → Bool) where
+  before-place : (xs : List ℕ) → Clear (λ i. test (get_or xs i 0)) (position_or_len test xs)
+  before-place [] = λ k h. absurd (omega arith)
+  before-place (x ∷ xs) = go (test x) refl (before-place xs)
+    where
+      go : (b : Bool) → test x ≡ b → Clear (λ i. test (get_or xs i 0)) (position_or_len test xs)
+          → Clear (λ i. test (get_or (x ∷ xs) i 0)) (cond (not b) (1 + position_or_len test xs) 0)
+      go true e rest k h = absurd (omega arith)
+      go false e rest zero h = e
+      go false e rest (suc k) h = rest k (omega arith)
+
+  pub at-place : (xs : List ℕ) → position_or_len test xs < length xs → test (get_or xs (position_or_len test xs) 0) ≡ true
+  at-place [] = λ h. absurd (omega arith)
+  at-place (x ∷ xs) = go (test x) refl (at-place xs)
+    where
+      go : (b : Bool) → test x ≡ b → (position_or_len test xs < length xs → test (get_or xs (position_or_len test xs) 0) ≡ true)
+          → cond (not b) (1 + position_or_len test xs) 0 < length (x ∷ xs) → test (get_or (x ∷ xs) (cond (not b) (1 + position_or_len test xs) 0) 0) ≡ true
+      go true e rest h = e
+      go false e rest h = rw one-add (rest (omega arith))
+
+  pub first-position : (xs : List ℕ) → first_below (λ i. test (get_or xs i 0)) (length xs) ≡ found (position test xs)
+  first-position xs = go (dec_lt (position_or_len test xs) (length xs))
+    where
+      go : Dec (position_or_len test xs < length xs) → first_below (λ i. test (get_or xs i 0)) (length xs) ≡ found (position test xs)
+      go (yes h) = rw (lt-ltb (position_or_len test xs) (length xs) h) (first-at (λ i. test (get_or xs i 0)) (length xs) (position_or_len test xs) h (before-place xs) (at-place xs h))
+      go (no h) = rw (le-ltb (position_or_len test xs) (length xs) (omega arith)) (first-nowhere (λ i. test (get_or xs i 0)) (length xs) (position_or_len test xs) (omega arith) (before-place xs))
 
 module _ (n : ℕ) (cuts : List ℕ) where
   -- a cut is bad by the two tests that the code joins
@@ -71,8 +91,8 @@ module _ (n : ℕ) (cuts : List ℕ) where
   pub falls-next : (i : ℕ) → cut_falls cuts (i + 1) ≡ ltb (get_or cuts (i + 1) 0) (get_or cuts i 0)
   falls-next i = rw (add-one i)
 
-  pub many-cuts : 63 < length cuts → bad_cuts n cuts ≡ place_below 63 (length cuts)
-  many-cuts h = rw (lt-ltb 63 (length cuts) h, bad_cuts, place_below)
+  pub many-cuts : 63 < length cuts → bad_cuts n cuts ≡ found (Some 63)
+  many-cuts h = rw (lt-ltb 63 (length cuts) h, bad_cuts)
 
   pub few-cuts-by : length cuts ≤ 63 → {found : Option ℕ} → first_below (bad_cut_at n cuts) (length cuts) ≡ found → bad_cuts n cuts ≡ found
   few-cuts-by h e = rw (le-ltb 63 (length cuts) h, bad_cuts) e
@@ -101,7 +121,7 @@ module _ (words matrix tokens cuts : List ℕ) (room : ℕ) where
       (refused_by (λ v. TooLong) (failing long 0)
       (refused_by BadToken token
       (refused_by BadCut cut
-      (refused_by NoRoom (failing short wanted) Done)))))
+      (refused_by NoRoom (failing short wanted) (Ok tt))))))
 
   abbrev by_shape : Bool → Answer
   by_shape right = answered right (eqb n 0) (ltb 16384 n) (bad_tokens (count_t words) tokens) (bad_cuts n cuts) (ltb room wanted)
@@ -110,45 +130,45 @@ module _ (words matrix tokens cuts : List ℕ) (room : ℕ) where
   unfolding start_answer
   by-shape right e = ap by_shape (sym e)
 
-  pub broken-grammar : grammar_in_shape words matrix ≡ false → Refused BadState ≡ start_answer words matrix tokens cuts room
+  pub broken-grammar : grammar_in_shape words matrix ≡ false → Err BadState ≡ start_answer words matrix tokens cuts room
   broken-grammar e = by-shape false e
 
   module _ (right : grammar_in_shape words matrix ≡ true) where
     abbrev by_count : Bool → Bool → Answer
     by_count empty long = answered true empty long (bad_tokens (count_t words) tokens) (bad_cuts n cuts) (ltb room wanted)
 
-    pub no_token : n ≡ 0 → Refused Empty ≡ start_answer words matrix tokens cuts room
+    pub no_token : n ≡ 0 → Err Empty ≡ start_answer words matrix tokens cuts room
     no_token h = ap (λ b. by_count b (ltb 16384 n)) (sym (eq-eqb n 0 h)) ∙ by-shape true right
 
     module _ (some_token : n ≡ 0 → ⊥) where
       by_length : (long : Bool) → ltb 16384 n ≡ long → by_count false long ≡ start_answer words matrix tokens cuts room
       by_length long e = ap (by_count false) (sym e) ∙ (ap (λ b. by_count b (ltb 16384 n)) (sym (ne_eqb n 0 some_token)) ∙ by-shape true right)
 
-      pub many-tokens : 16384 < n → Refused TooLong ≡ start_answer words matrix tokens cuts room
+      pub many-tokens : 16384 < n → Err TooLong ≡ start_answer words matrix tokens cuts room
       many-tokens h = by_length true (lt-ltb 16384 n h)
 
-      module _ (few : n ≤ 16384) (i : ℕ) (tokens-by : bad_tokens (count_t words) tokens ≡ place_below i n) where
-        by_token : (token : Option ℕ) → place_below i n ≡ token → answered true false false token (bad_cuts n cuts) (ltb room wanted) ≡ start_answer words matrix tokens cuts room
+      module _ (few : n ≤ 16384) (place : Prelude.Option ℕ) (tokens-by : bad_tokens (count_t words) tokens ≡ found place) where
+        by_token : (token : Option ℕ) → found place ≡ token → answered true false false token (bad_cuts n cuts) (ltb room wanted) ≡ start_answer words matrix tokens cuts room
         by_token token e = ap (λ t. answered true false false t (bad_cuts n cuts) (ltb room wanted)) (sym (tokens-by ∙ e)) ∙ by_length false (le-ltb 16384 n few)
 
-        pub bad-token : i < n → Refused (BadToken i) ≡ start_answer words matrix tokens cuts room
-        bad-token h = by_token (some i) (place-there h)
+        pub bad-token : (i : ℕ) → place ≡ Some i → Err (BadToken i) ≡ start_answer words matrix tokens cuts room
+        bad-token i h = by_token (some i) (ap found h)
 
-        module _ (right_tokens : n ≤ i) (j : ℕ) (cuts-by : bad_cuts n cuts ≡ place_below j (length cuts)) where
-          by-cut : (cut : Option ℕ) → place_below j (length cuts) ≡ cut → answered true false false none cut (ltb room wanted) ≡ start_answer words matrix tokens cuts room
-          by-cut cut e = ap (λ c. answered true false false none c (ltb room wanted)) (sym (cuts-by ∙ e)) ∙ by_token none (place-beyond right_tokens)
+        module _ (right_tokens : place ≡ None) (cut_place : Prelude.Option ℕ) (cuts-by : bad_cuts n cuts ≡ found cut_place) where
+          by-cut : (cut : Option ℕ) → found cut_place ≡ cut → answered true false false none cut (ltb room wanted) ≡ start_answer words matrix tokens cuts room
+          by-cut cut e = ap (λ c. answered true false false none c (ltb room wanted)) (sym (cuts-by ∙ e)) ∙ by_token none (ap found right_tokens)
 
-          pub bad-cut : j < length cuts → Refused (BadCut j) ≡ start_answer words matrix tokens cuts room
-          bad-cut h = by-cut (some j) (place-there h)
+          pub bad-cut : (j : ℕ) → cut_place ≡ Some j → Err (BadCut j) ≡ start_answer words matrix tokens cuts room
+          bad-cut j h = by-cut (some j) (ap found h)
 
-          module _ (right_cuts : length cuts ≤ j) where
+          module _ (right_cuts : cut_place ≡ None) where
             by-room : (short : Bool) → ltb room wanted ≡ short → answered true false false none none short ≡ start_answer words matrix tokens cuts room
-            by-room short e = ap (answered true false false none none) (sym e) ∙ by-cut none (place-beyond right_cuts)
+            by-room short e = ap (answered true false false none none) (sym e) ∙ by-cut none (ap found right_cuts)
 
-            pub small-room : room < wanted → Refused (NoRoom wanted) ≡ start_answer words matrix tokens cuts room
+            pub small-room : room < wanted → Err (NoRoom wanted) ≡ start_answer words matrix tokens cuts room
             small-room h = by-room true (lt-ltb room wanted h)
 
-            pub enough-room : wanted ≤ room → Done ≡ start_answer words matrix tokens cuts room
+            pub enough-room : wanted ≤ room → Ok tt ≡ start_answer words matrix tokens cuts room
             enough-room h = by-room false (le-ltb room wanted h)
 
 -- ---- what holds where nothing is refused
@@ -160,7 +180,7 @@ pub record Writable (tokens cuts : List ℕ) (room : ℕ) : Type 0 where
   pub cuts_within : (i : ℕ) → get_or cuts i 0 ≤ length tokens
   pub enough : need (length tokens) (length cuts + 1) ≤ room
 
-module _ (words matrix tokens cuts : List ℕ) (room : ℕ) (done : start_answer words matrix tokens cuts room ≡ Done) where
+module _ (words matrix tokens cuts : List ℕ) (room : ℕ) (done : start_answer words matrix tokens cuts room ≡ Ok tt) where
   startable : Startable (record { words = words; matrix = matrix; tokens = tokens; cuts = cuts; room = room })
   startable = (starts-exactly words matrix tokens cuts room).0 done
 

@@ -3,19 +3,19 @@
 -- #; # equals #. blank (0): none of these"; 6 CONFLICT "a pair has two relations", "least 64a + b".
 -- Rests on Shown and Filled, and on language's RelationTests, RelationPairs, Conflicts and Matrix.
 --
--- Main definitions: shown_in, Seen, end_test, Union, test_of, Shows, pair_number, number_in, entry_in, marked_at.
--- Main statements: ends-seen, seen_more, shows, entry-is, entry-none, table_more, table-whole, marked-clash, marked-free, marked-matrix.
-use Rattle.std.specs.Prelude.{◌≡◌, refl, ◌⊎◌, Bool, true, false, ◌&&◌, ◌||◌, List, [], ◌∷◌, ◌++◌, ℕ, zero, suc, ◌+◌, ◌*◌, ◌/◌, ◌%◌, ◌≤◌, ◌<◌, eqb, leb, length, get_or, set, replicate}
+-- Main definitions: shown_in, Seen, end_test, Union, test_of, Shows, only_of, relation_in, two_in, byte_in, clash_in, RowWritten, RowRefused, Whole,
+-- FirstConflict, Rows. Main statements: ends-seen, seen_more, shows, byte-is, clash-is, byte-none, clash-none, rows-more, rows-refused, rows-whole.
+use Rattle.std.specs.Prelude.{◌≡◌, refl, ◌⊎◌, Bool, true, false, ◌&&◌, ◌||◌, List, [], ◌∷◌, ◌++◌, ℕ, ◌+◌, ◌-◌, ◌*◌, ◌/◌, ◌%◌, ◌≤◌, ◌<◌, eqb, leb, length, get_or, set, replicate, Option, Some, None}
 use Rattle.std.proofs.Common.{sym, ap, ap₂, ◌∙◌, inl, inr, arith, add-one, length-set, get_or-set_same, get_or-set_other}
 use Rattle.std.proofs.Math.Path.{fun_ext}
 use Rattle.std.proofs.Math.Bool.{and-false, or-true, or-false, or_comm, or_assoc}
-use Rattle.std.proofs.Math.Decide.{ℕ_discrete}
+use Rattle.std.proofs.Math.Decide.{dec_lt, ℕ_discrete}
 use Rattle.std.proofs.lemmas.List.{length-replicate}
 use Rattle.std.proofs.lemmas.List.Edits.{sets}
 use Rattle.laws.specs.Picks.{pick}
 use Rattle.laws.specs.Tests.{any, any-cons, up_to, any_below, eq-eqb, ne_eqb, lt-leb}
 use Rattle.laws.specs.Least.{Clear}
-use Rattle.laws.specs.Tabulate.{tabulate, tabulate_from, get_d_tabulate}
+use Rattle.laws.specs.Tabulate.{tabulate, tabulate_from}
 use Rattle.laws.specs.Masks.{bit, bit-pow}
 use Rattle.language.specs.Symbols.{Symbol, Relation, blank, yields, equal, takes, relation_number}
 use Rattle.language.specs.Grammar.{Grammar, rule_at, in_play, mirrored}
@@ -25,8 +25,11 @@ use Rattle.language.specs.RelationTests.{equal_test, yields_test, takes_test, st
 use Rattle.language.proofs.RelationPairs.{in-use}
 use Rattle.language.specs.Conflicts.{two_of, clash, clash_at}
 use Rattle.language.specs.Matrix.{entry_at}
-use Rattle.language.proofs.Matrix.{number_small}
-use Rattle.table.specs.Filled.{Rowed, rowed-more, rowed-whole}
+use Rattle.refusals.specs.declared.Refusal.{Refusal}
+use Rattle.refusals.specs.declared.Refusal.TheVariants.{Conflict}
+use Rattle.table.specs.declared.relations.Relation as code
+use Rattle.table.specs.declared.relations.Relation.TheVariants.{Blank, Yields, Equal, Takes}
+use Rattle.table.specs.Filled.{Rowed, rowed-none, rowed-more, rowed-whole}
 use Rattle.table.specs.MaskRows.{none-bit}
 use Rattle.table.specs.Shown.{holds, Adds, here, anywhere, row_same}
 use Rattle.table.specs.SetPasses.{AreSets}
@@ -185,93 +188,179 @@ shows {g} {rows} seen = by_kind
 
 -- ---- conflicts and entries
 
--- the relation's number, and 4 for two relations
-abbrev pub pair_number : Bool → Bool → Bool → ℕ
-pair_number e y t = pick (two_of e y t) 4 (relation_number (first_of e y t))
+-- a relation as code names it
+abbrev pub as_code : Relation → code.Relation
+as_code blank = Blank
+as_code yields = Yields
+as_code equal = Equal
+as_code takes = Takes
 
--- two of the three, as code asks it
-pub two_is : (e y t : Bool) → ((e && (y || t)) || (y && t)) ≡ two_of e y t
-two_is true true t = refl
-two_is true false t = or-false t
-two_is false true t = refl
-two_is false false t = refl
+-- the one relation of three tests; none where two of them pass
+abbrev pub only_of : Bool → Bool → Bool → Option code.Relation
+only_of e y t = pick (two_of e y t) None (Some (as_code (first_of e y t)))
 
--- what the rows say of a pair; and of the pair at v
-abbrev pub number_in : List ℕ → ℕ → ℕ → ℕ
-number_in rows a b = pair_number (holds rows equal a b) (holds rows yields a b) (holds rows takes a b)
+-- one that is given is the one relation
+pub some-told : (two : Bool) (only given : code.Relation) → ◌≡◌ {A = Option code.Relation} (Some given) (pick two None (Some only)) → (two ≡ false) × (given ≡ only)
+some-told true only given e = let z : ◌≡◌ {A = ℕ} 0 1 = cc in absurd (omega arith)
+some-told false only given e = (refl, cc)
 
-abbrev pub entry_in : List ℕ → ℕ → ℕ
-entry_in rows v = number_in rows (v / 64) (v % 64)
+-- what the rows say of a pair: its relation, and whether it has two
+module _ (rows : List ℕ) (a b : ℕ) where
+  abbrev pub only_in : Option code.Relation
+  only_in = only_of (holds rows equal a b) (holds rows yields a b) (holds rows takes a b)
 
-pub number_at : (rows : List ℕ) (a b : ℕ) → b < 64 → number_in rows a b ≡ entry_in rows (64 * a + b)
-number_at rows a b h =
-    let p : (64 * a + b) / 64 ≡ a = omega arith in
-    let q : (64 * a + b) % 64 ≡ b = omega arith in
-    rw (p, q)
+  abbrev pub relation_in : Relation
+  relation_in = first_of (holds rows equal a b) (holds rows yields a b) (holds rows takes a b)
 
--- the matrix's entry, and 4 for a conflict
-abbrev pub marked_at : Grammar → ℕ → ℕ
-marked_at g v = pick (clash_at g v) 4 (entry_at g v)
+  abbrev pub two_in : Bool
+  two_in = two_of (holds rows equal a b) (holds rows yields a b) (holds rows takes a b)
+
+-- and of the pair at v: the byte that it has in the matrix, and whether it is a conflict
+abbrev pub byte_in : List ℕ → ℕ → ℕ
+byte_in rows v = relation_number (relation_in rows (v / 64) (v % 64))
+
+abbrev pub clash_in : List ℕ → ℕ → Bool
+clash_in rows v = two_in rows (v / 64) (v % 64)
+
+module _ (rows : List ℕ) (a b : ℕ) (h : b < 64) where
+  over : (64 * a + b) / 64 ≡ a
+  over = omega arith
+
+  behind : (64 * a + b) % 64 ≡ b
+  behind = omega arith
+
+  pub byte-at : relation_number (relation_in rows a b) ≡ byte_in rows (64 * a + b)
+  byte-at = rw (over, behind)
+
+  pub clash-at : two_in rows a b ≡ clash_in rows (64 * a + b)
+  clash-at = rw (over, behind)
+
+-- a row of the matrix that is written: no pair of it has two relations
+pub record RowWritten (rows : List ℕ) (a t : ℕ) (old new : List ℕ) : Type 0 where
+  pub written : new ≡ sets old (64 * a) (tabulate_from (byte_in rows) (t + 1) (64 * a))
+  pub free : (b : ℕ) → b ≤ t → clash_in rows (64 * a + b) ≡ false
+
+-- a row that is refused: its first pair with two relations is named
+pub record RowRefused (rows : List ℕ) (a t : ℕ) (refusal : Refusal) : Type 0 where
+  pub other : ℕ
+  pub within : other ≤ t
+  pub names : refusal ≡ Conflict (64 * a + other)
+  pub two : clash_in rows (64 * a + other) ≡ true
+  pub least : (b : ℕ) → b < other → clash_in rows (64 * a + b) ≡ false
+
+-- the matrix, where no pair has two relations
+pub record Whole (g : Grammar) (table : List ℕ) : Type 0 where
+  pub free : Clear (clash_at g) 4096
+  pub is : table ≡ tabulate (entry_at g) 4096
+
+-- and else the refusal
+pub record FirstConflict (g : Grammar) (refusal : Refusal) : Type 0 where
+  pub pair : ℕ
+  pub within : pair < 4096
+  pub names : refusal ≡ Conflict pair
+  pub two : clash_at g pair ≡ true
+  pub least : Clear (clash_at g) pair
 
 module _ (g : Grammar) (a b : ℕ) where
-  -- the number of a pair that is used, by the three tests
-  used-number : in_use g a b ≡ true
-      → pair_number (equal_test g a b) (yields_test g a b) (takes_test g a b) ≡ pick (clash g a b) 4 (relation_number (relation_of g a b))
-  unfolding clash relation_of
-  used-number e = rw (e, clash, relation_of)
+  -- of a pair that is used the three tests decide
+  used-clash : in_use g a b ≡ true → two_of (equal_test g a b) (yields_test g a b) (takes_test g a b) ≡ clash g a b
+  unfolding clash
+  used-clash e = rw (e, clash)
 
-  -- of one that is not used
-  unused-number : in_use g a b ≡ false → pick (clash g a b) 4 (relation_number (relation_of g a b)) ≡ 0
-  unfolding clash relation_of
-  unused-number e = rw (e, clash, relation_of)
+  used-number : in_use g a b ≡ true → relation_number (first_of (equal_test g a b) (yields_test g a b) (takes_test g a b)) ≡ relation_number (relation_of g a b)
+  unfolding relation_of
+  used-number e = rw (e, relation_of)
+
+  -- one that is not used has no relation
+  unused-clash : in_use g a b ≡ false → clash g a b ≡ false
+  unfolding clash
+  unused-clash e = rw (e, clash)
+
+  unused-number : in_use g a b ≡ false → relation_number (relation_of g a b) ≡ 0
+  unfolding relation_of
+  unused-number e = rw (e, relation_of)
+
+not-used : (g : Grammar) (a b : ℕ) → (g.terminals < a) ⊎ (g.terminals < b) → in_use g a b ≡ false
+not-used g a b (inl h) = rw (lt-leb a g.terminals h)
+not-used g a b (inr h) = rw (lt-leb b g.terminals h) (and-false (leb a g.terminals))
 
 module _ (g : Grammar) (v : ℕ) where
-  -- the rows have the matrix's entries, and 4 for a conflict, where both numbers are at most T
-  pub entry-is : (rows : List ℕ) → Shows g rows → v / 64 < 64 → v / 64 ≤ g.terminals → v % 64 ≤ g.terminals → entry_in rows v ≡ marked_at g v
-  entry-is rows are i p q =
-      let j : v % 64 < 64 = omega arith in
-      rw (are equal (v / 64) (v % 64) i j, are yields (v / 64) (v % 64) i j, are takes (v / 64) (v % 64) i j)
-      (used-number g (v / 64) (v % 64) (in-use g (v / 64) (v % 64) p q))
+  -- the rows have the matrix's entries and conflicts, where both numbers are at most T
+  module _ (rows : List ℕ) (are : Shows g rows) (i : v / 64 < 64) (p : v / 64 ≤ g.terminals) (q : v % 64 ≤ g.terminals) where
+    low : v % 64 < 64
+    low = omega arith
+
+    pub byte-is : byte_in rows v ≡ entry_at g v
+    byte-is =
+        rw (are equal (v / 64) (v % 64) i low, are yields (v / 64) (v % 64) i low, are takes (v / 64) (v % 64) i low)
+        (used-number g (v / 64) (v % 64) (in-use g (v / 64) (v % 64) p q))
+
+    pub clash-is : clash_in rows v ≡ clash_at g v
+    clash-is =
+        rw (are equal (v / 64) (v % 64) i low, are yields (v / 64) (v % 64) i low, are takes (v / 64) (v % 64) i low)
+        (used-clash g (v / 64) (v % 64) (in-use g (v / 64) (v % 64) p q))
 
   -- past T there is none
-  pub entry-none : (g.terminals < v / 64) ⊎ (g.terminals < v % 64) → marked_at g v ≡ 0
-  entry-none (inl h) = unused-number g (v / 64) (v % 64) (rw (lt-leb (v / 64) g.terminals h))
-  entry-none (inr h) = unused-number g (v / 64) (v % 64) (rw (lt-leb (v % 64) g.terminals h) (and-false (leb (v / 64) g.terminals)))
+  module _ (past : (g.terminals < v / 64) ⊎ (g.terminals < v % 64)) where
+    pub byte-none : entry_at g v ≡ 0
+    byte-none = unused-number g (v / 64) (v % 64) (not-used g (v / 64) (v % 64) past)
 
--- the table after its first a rows: one row more, and all rows up to T's
-module _ (g : Grammar) {a t : ℕ} {table : List ℕ} (all : t ≡ g.terminals) (done : Rowed (marked_at g) 4096 a table) where
-  pub table_more : (rows : List ℕ) → Shows g rows → t < 64 → a ≤ t → Rowed (marked_at g) 4096 (a + 1) (sets table (64 * a) (tabulate_from (entry_in rows) (t + 1) (64 * a)))
-  table_more rows are low h =
-      rowed-more (marked_at g) 4096 done (entry_in rows) t low (omega arith)
-      (λ v i j. entry-is g v rows are (omega arith) (omega arith) (omega arith)) (λ v i j. entry-none g v (inr (omega arith)))
+    pub clash-none : clash_at g v ≡ false
+    clash-none = unused-clash g (v / 64) (v % 64) (not-used g (v / 64) (v % 64) past)
 
-  pub table-whole : t < a → table ≡ tabulate (marked_at g) 4096
-  table-whole h = rowed-whole (marked_at g) 4096 done (λ v i j. entry-none g v (inl (omega arith)))
+-- the table after its first a rows, none of which has a conflict
+pub record Rows (g : Grammar) (a : ℕ) (table : List ℕ) : Type 0 where
+  pub rowed : Rowed (entry_at g) 4096 a table
+  pub free : Clear (clash_at g) (64 * a)
 
--- in the table 4 tells a conflict, and the other numbers that there is none
-module _ (g : Grammar) (table : List ℕ) (is : table ≡ tabulate (marked_at g) 4096) (v : ℕ) (h : v < 4096) where
-  marked-at : get_or table v 0 ≡ pick (clash_at g v) 4 (entry_at g v)
-  marked-at = ap (λ (t : List ℕ). get_or t v 0) is ∙ get_d_tabulate (marked_at g) 4096 v 0 h
+pub rows-none : (g : Grammar) → Rows g 0 (replicate 4096 0)
+rows-none g = record { rowed = rowed-none (entry_at g) 4096; free = λ k h. absurd (omega arith) }
 
-  pub marked-clash : get_or table v 0 ≡ 4 → clash_at g v ≡ true
-  marked-clash e = go (clash_at g v) (sym marked-at ∙ e)
+module _ (g : Grammar) {a t : ℕ} {table : List ℕ} (all : t ≡ g.terminals) (low : t < 64) (done : Rows g a table) where
+  module _ (rows : List ℕ) (are : Shows g rows) (h : a ≤ t) where
+    clash-here : (v : ℕ) → 64 * a ≤ v → v ≤ 64 * a + t → clash_in rows v ≡ clash_at g v
+    clash-here v i j = clash-is g v rows are (omega arith) (omega arith) (omega arith)
+
+    -- before place b of row a there is no conflict, where the row has none before b
+    before : (b : ℕ) → b ≤ t + 1 → ((k : ℕ) → k < b → clash_in rows (64 * a + k) ≡ false) → Clear (clash_at g) (64 * a + b)
+    before b l free v k = go (dec_lt v (64 * a))
+      where
+        go : Dec (v < 64 * a) → clash_at g v ≡ false
+        go (yes i) = done.free v i
+        go (no i) =
+            let e : 64 * a + (v - 64 * a) ≡ v = omega arith in
+            sym (clash-here v (omega arith) (omega arith)) ∙ (rw e at (free (v - 64 * a) (omega arith)))
+
+    -- one row more
+    pub rows-more : {after : List ℕ} → RowWritten rows a t table after → Rows g (a + 1) after
+    rows-more {after} r = record {
+      rowed = rw r.written
+          (rowed-more (entry_at g) 4096 done.rowed (byte_in rows) t low (omega arith)
+          (λ v i j. byte-is g v rows are (omega arith) (omega arith) (omega arith)) (λ v i j. byte-none g v (inr (omega arith))));
+      free = λ v k. go v k (dec_lt v (64 * a + (t + 1)));
+    }
+      where
+        go : (v : ℕ) → v < 64 * (a + 1) → Dec (v < 64 * a + (t + 1)) → clash_at g v ≡ false
+        go v k (yes i) = before (t + 1) (omega arith) (λ b l. r.free b (omega arith)) v i
+        go v k (no i) = clash-none g v (inr (omega arith))
+
+    -- a row that is refused has the first conflict
+    pub rows-refused : {refusal : Refusal} → RowRefused rows a t refusal → FirstConflict g refusal
+    rows-refused r = record {
+      pair = 64 * a + r.other;
+      within = omega (arith, r.within);
+      names = r.names;
+      two = sym (clash-here (64 * a + r.other) (omega arith) (omega (arith, r.within))) ∙ r.two;
+      least = before r.other (omega (arith, r.within)) r.least;
+    }
+
+  -- all rows up to T's are the matrix
+  pub rows-whole : t < a → Whole g table
+  rows-whole h = record {
+    free = λ v k. go v (dec_lt v (64 * a));
+    is = rowed-whole (entry_at g) 4096 done.rowed (λ v i j. byte-none g v (inl (omega arith)));
+  }
     where
-      go : (two : Bool) → pick two 4 (entry_at g v) ≡ 4 → two ≡ true
-      go true q = refl
-      go false q = absurd (omega (arith, number_small (relation_of g (v / 64) (v % 64))))
-
-  pub marked-free : (get_or table v 0 ≡ 4 → ⊥) → clash_at g v ≡ false
-  marked-free d = go (clash_at g v) marked-at
-    where
-      go : (two : Bool) → get_or table v 0 ≡ pick two 4 (entry_at g v) → two ≡ false
-      go true q = absurd (d q)
-      go false q = refl
-
--- lists of what is the same below n
-from-same : (f h : ℕ → ℕ) (n i : ℕ) → ((k : ℕ) → k < i + n → f k ≡ h k) → tabulate_from f n i ≡ tabulate_from h n i
-from-same f h zero i same = refl
-from-same f h (suc n) i same = ap₂ (λ (x : ℕ) (l : List ℕ). x ∷ l) (same i (omega arith)) (from-same f h n (suc i) (λ k l. same k (omega arith)))
-
--- where no pair has two relations the table is the matrix
-pub marked-matrix : (g : Grammar) → Clear (clash_at g) 4096 → tabulate (marked_at g) 4096 ≡ tabulate (entry_at g) 4096
-marked-matrix g clear = from-same (marked_at g) (entry_at g) 4096 0 (λ v h. ap (λ (two : Bool). pick two 4 (entry_at g v)) (clear v (omega arith)))
+      go : (v : ℕ) → Dec (v < 64 * a) → clash_at g v ≡ false
+      go v (yes i) = done.free v i
+      go v (no i) = clash-none g v (inl (omega arith))

@@ -3,14 +3,13 @@
 -- right sides from their start or from their end.
 -- Rests on words' Laid, and on language's Words, Mirror, WordsInRange and Checks.
 --
--- Main definitions: turned, sided, RulesOf. Main statements: part_at, from_start, from-the-end, side-length, passed-laid, side-rules.
-use Rattle.std.specs.Prelude.{◌≡◌, refl, Bool, true, false, ℕ, suc, ◌+◌, ◌-◌, ◌≤◌, ◌<◌, length, get_or, take}
-use Rattle.std.proofs.Common.{sym, ◌∙◌, arith, get_or-take, get_or-drop}
+-- Main definitions: from_end, turned, sided, RulesOf. Main statements: side-length, passed-laid, side-rules.
+use Rattle.std.specs.Prelude.{◌≡◌, refl, Bool, true, false, ℕ, suc, ◌-◌, ◌≤◌, ◌<◌, length}
+use Rattle.std.proofs.Common.{sym, ◌∙◌, arith}
 use Rattle.std.proofs.Math.Path.{ap}
-use mathlib.Core.List.{List, [], ◌∷◌, map, reverse, reverse_aux, Memᴰ, reverse_aux-eq, reverse-reverse}
-use Rattle.std.proofs.Math.Decide.{dec_lt}
-use Rattle.std.proofs.lemmas.List.{length-reverse, length-map, get_or_at}
-use Rattle.std.proofs.Math.Seq.{slice, length-slice}
+use mathlib.Core.List.{List, [], ◌∷◌, map, reverse, reverse_aux, Memᴰ, reverse-reverse}
+use Rattle.std.proofs.lemmas.List.{length-reverse, length-map}
+use Rattle.std.proofs.Math.Seq.{length-slice}
 use Rattle.laws.specs.Tests.{up_to-below, below-up_to}
 use Rattle.laws.specs.Least.{Nowhere, finds-none}
 use Rattle.language.specs.Symbols.{Symbol, symbol_of}
@@ -25,6 +24,13 @@ use Rattle.language.specs.SetMasks.{InRange}
 use Rattle.language.proofs.SetMasks.{in-range-mirrored}
 use Rattle.language.proofs.WordsInRange.{rules-count, rule-at, in_range, few-terminals, few-nonterminals}
 use Rattle.words.specs.Laid.{Laid, headed, laid}
+use Rattle.table.specs.declared.sets.Side.{Side}
+use Rattle.table.specs.declared.sets.Side.TheVariants.{Left, Right}
+
+-- the side of right sets is the end
+abbrev pub from_end : Side → Bool
+from_end Left = false
+from_end Right = true
 
 -- a string seen from its start, or from its end
 abbrev pub turned : {A : Type 0} → Bool → List A → List A
@@ -37,34 +43,6 @@ sided false g = g
 sided true g = mirrored g
 
 -- ---- turned strings
-
--- from the end: what stands before r, turned round
-reversed-at : (l r : List ℕ) (i : ℕ) → i < length l → get_or (reverse_aux l r) i 0 ≡ get_or l (length l - 1 - i) 0
-reversed-at [] r i h = absurd (omega arith)
-reversed-at (x ∷ l) r i h = go (dec_lt i (length l)) (reversed-at l (x ∷ r) i)
-  where
-    go : Dec (i < length l) → (i < length l → get_or (reverse_aux l (x ∷ r)) i 0 ≡ get_or l (length l - 1 - i) 0)
-        → get_or (reverse_aux l (x ∷ r)) i 0 ≡ get_or (x ∷ l) (suc (length l) - 1 - i) 0
-    go (yes k) rest = let e : suc (length l) - 1 - i ≡ suc (length l - 1 - i) = omega arith in rest k ∙ rw e
-    go (no k) rest =
-        let e : suc (length l) - 1 - i ≡ 0 = omega arith in
-        let q : length (reverse l) ≡ i = length-reverse l ∙ omega arith in
-        ap (λ (w : List ℕ). get_or w i 0) (reverse_aux-eq l (x ∷ r)) ∙ get_or_at (reverse l) x r 0 i q ∙ rw e
-
--- word i of the words from start to end
-pub part_at : (words : List ℕ) (start end i : ℕ) → i < end - start → get_or (slice start end words) i 0 ≡ get_or words (start + i) 0
-part_at words start end i h = get_or-drop start (take end words) i 0 ∙ get_or-take end words (start + i) 0 (omega arith)
-
--- and counted from one side
-module _ (words : List ℕ) (start end i : ℕ) (fits : end ≤ length words) where
-  pub from_start : (from_end : Bool) → from_end ≡ false → i < end - start → get_or (turned from_end (slice start end words)) i 0 ≡ get_or words (start + i) 0
-  from_start from_end e h = rw e (part_at words start end i h)
-
-  pub from-the-end : (from_end : Bool) → from_end ≡ true → i < end - start → get_or (turned from_end (slice start end words)) i 0 ≡ get_or words (end - 1 - i) 0
-  from-the-end from_end e h =
-      let long = length-slice start end words fits in
-      let there : start + (length (slice start end words) - 1 - i) ≡ end - 1 - i = omega arith in
-      rw e (reversed-at (slice start end words) [] i (omega arith) ∙ part_at words start end (length (slice start end words) - 1 - i) (omega arith) ∙ rw there)
 
 map-reverse : (l : List ℕ) → map symbol_of (reverse l) ≡ reverse (map symbol_of l)
 map-reverse l = go l []

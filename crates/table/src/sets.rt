@@ -1,78 +1,87 @@
 // The left and right sets of all nonterminals as masks. Document 01, "Sets and matrix".
 // The right sets mirror the left sets: everything here looks at right sides from their start, or from their end.
-ghost use Rattle.std.specs.Prelude.{◌≡◌, ◌+◌, ◌<◌, length, get_or};
-ghost use Rattle.language.specs.Words.{count_r, entry, body_end, grammar_of};
-ghost use Rattle.language.specs.Checks.{Passed};
-ghost use Rattle.words.specs.Laid.{Laid};
-ghost use Rattle.table.specs.Sided.{sided, side_words};
+ghost use Rattle.std.specs.Prelude.{◌≡◌, ◌<◌, length, get_or};
+ghost use Rattle.language.specs.Words.{count_r, grammar_of};
+ghost use Rattle.table.specs.Sided.{from_end, sided, turned, side_words};
 ghost use Rattle.table.specs.SetPasses.{brought, gained, Sound, Members, Changed, Grown};
 
-use crate::word;
+use crate::checked::Checked;
 
-// Word i of rule r's right side, counted from that side.
-fn word_from(words: &[u16], r: usize, i: usize, from_end: bool) -> usize
-    requires { Laid words.now × (r < count_r words.now) × (entry words.now r + 1 + i < body_end words.now r) }
-    ensures { result ≡ get_or (side_words words.now from_end r) i 0 }
-{
-    let body = words::body_of(words, r);
-    if from_end {
-        return word(words, body.end - 1 - i);
-    }
-    word(words, body.start + 1 + i)
+// The side from which right sides are seen: from their start for left sets, from their end for right sets.
+#[derive(Clone, Copy)]
+pub(crate) enum Side {
+    Left,
+    Right,
 }
 
-// What rule r brings to the set of its left side, given the sets so far: its outermost terminal, and all of the set of a
-// nonterminal before that.
-fn brought(words: &[u16], masks: &[u64; 64], r: usize, from_end: bool) -> u64
-    requires { Passed words.now × (r < count_r words.now) }
-    ensures { result ≡ brought masks.now (get_or (side_words words.now from_end r) 0 0) (get_or (side_words words.now from_end r) 1 0) }
-{
-    let near = word_from(words, r, 0, from_end);
-    if near < 256 {
-        return 1u64 << near;
-    }
-    1u64 << word_from(words, r, 1, from_end) | masks[near - 256]
-}
-
-// Rule r brings what it can to the set of its left side: whether that set has changed.
-fn gain(words: &[u16], masks: &mut [u64; 64], r: usize, from_end: bool) -> bool
-    requires { Passed words.now × (r < count_r words.now) × (length masks.old ≡ 64) }
-    ensures is { masks.new ≡ gained words.now from_end masks.old r }
-    ensures changed { Changed masks.old masks.new result }
-{
-    let body = words::body_of(words, r);
-    let left = word(words, body.start);
-    let old = masks[left];
-    let new = old | brought(words, masks, r, from_end);
-    masks[left] = new;
-    new != old
-}
-
-// One pass over the rules: whether a set has changed.
-fn pass(words: &[u16], masks: &mut [u64; 64], from_end: bool) -> bool
-    requires { Passed words.now × Sound (sided from_end (grammar_of words.now)) masks.old }
-    ensures sound { Sound (sided from_end (grammar_of words.now)) masks.new }
-    ensures grown { Grown (gained words.now from_end) masks.old masks.new (count_r words.now) result }
-{
-    let rules = word(words, 3);
-    let mut changed = false;
-    let mut r: usize = 0;
-    while r < rules {
-        changed = changed | gain(words, masks, r, from_end);
-        r += 1;
-    }
-    changed
-}
-
-// The left sets of all nonterminals, or the right sets: passes from empty sets until one changes nothing.
-pub(crate) fn masks(words: &[u16], from_end: bool) -> [u64; 64]
-    requires { Passed words.now }
-    ensures { Members (sided from_end (grammar_of words.now)) result }
-{
-    let mut masks = [0u64; 64];
-    loop {
-        if !pass(words, &mut masks, from_end) {
-            return masks;
+impl Side {
+    // Word i of a right side, counted from this side.
+    fn word(self, right: &[u16], i: usize) -> usize
+        requires { i < length right.now }
+        ensures { result ≡ get_or (turned (from_end self) right.now) i 0 }
+    {
+        match self {
+            Side::Left => right[i] as usize,
+            Side::Right => right[right.len() - 1 - i] as usize,
         }
+    }
+}
+
+// A grammar whose right sides are seen from one side.
+#[derive(Clone, Copy)]
+pub(crate) struct View<'a> {
+    pub(crate) grammar: Checked<'a>,
+    pub(crate) side: Side,
+}
+
+impl View<'_> {
+    // What rule r brings to the set of its left side, given the sets so far: its outermost terminal, and all of the set of a
+    // nonterminal before that.
+    fn brought(&self, masks: &[u64; 64], r: usize) -> u64
+        requires { r < count_r self.now.grammar.words.now }
+        ensures { let right = side_words self.now.grammar.words.now (from_end self.now.side) r in result ≡ brought masks.now (get_or right 0 0) (get_or right 1 0) }
+    {
+        let right = self.grammar.right(r);
+        let near = self.side.word(right, 0);
+        if near < 256 {
+            return 1u64 << near;
+        }
+        1u64 << self.side.word(right, 1) | masks[near - 256]
+    }
+
+    // Rule r brings what it can to the set of its left side: whether that set has changed.
+    fn gain(&self, masks: &mut [u64; 64], r: usize) -> bool
+        requires { (r < count_r self.now.grammar.words.now) × (length masks.old ≡ 64) }
+        ensures is { masks.new ≡ gained self.now.grammar.words.now (from_end self.now.side) masks.old r }
+        ensures changed { Changed masks.old masks.new result }
+    {
+        let left = self.grammar.left(r);
+        let old = masks[left];
+        let new = old | self.brought(masks, r);
+        masks[left] = new;
+        new != old
+    }
+
+    // One pass over the rules: whether a set has changed.
+    fn pass(&self, masks: &mut [u64; 64]) -> bool
+        requires { Sound (sided (from_end self.now.side) (grammar_of self.now.grammar.words.now)) masks.old }
+        ensures sound { Sound (sided (from_end self.now.side) (grammar_of self.now.grammar.words.now)) masks.new }
+        ensures grown { Grown (gained self.now.grammar.words.now (from_end self.now.side)) masks.old masks.new (count_r self.now.grammar.words.now) result }
+    {
+        let mut changed = false;
+        for r in 0..self.grammar.rules() {
+            changed |= self.gain(masks, r);
+        }
+        changed
+    }
+
+    // The left sets of all nonterminals, or the right sets: passes from empty sets until one changes nothing. No iterator is plainer, since what ends
+    // this loop is what a pass did, and no place is counted.
+    pub(crate) fn masks(&self) -> [u64; 64]
+        ensures { Members (sided (from_end self.now.side) (grammar_of self.now.grammar.words.now)) result }
+    {
+        let mut masks = [0u64; 64];
+        while self.pass(&mut masks) {}
+        masks
     }
 }

@@ -12,6 +12,7 @@ use Rattle.laws.specs.Ascii.{line_feed}
 use Rattle.laws.specs.Decimals.{all_digits, value_from, decimal, decimal-some, decimal-digits, decimal-value}
 use Rattle.laws.specs.Picks.{pick}
 use Rattle.laws.specs.Tests.{leb-true, le-leb}
+use Rattle.text.specs.declared.reading.Line.TheVariants.{Words, Tokens, Cuts}
 use Rattle.text.specs.Readings.{divided, lines_of, parts_of, number_of, numbers_of, at_most, present_line, good_line, most_words}
 use Rattle.text.specs.Readings.{most_tokens, most_cuts, lines, bad_line, read_lines, read_text}
 
@@ -25,15 +26,15 @@ decimal-read v h = go (decimal v) (decimal-some v) (decimal-digits v) (decimal-v
 
 -- the reading, line by line
 module _ (text : List (List ℕ)) where
-  pub bad-first : good_line 0 most_words text ≡ none → read_lines text ≡ bad_line 1
+  pub bad-first : good_line 0 most_words text ≡ none → read_lines text ≡ bad_line Words
   bad-first a = rw (a, read_lines)
 
   module _ (words : List ℕ) (a : good_line 0 most_words text ≡ some words) where
-    pub bad-second : good_line 1 most_tokens text ≡ none → read_lines text ≡ bad_line 2
+    pub bad-second : good_line 1 most_tokens text ≡ none → read_lines text ≡ bad_line Tokens
     bad-second b = rw (a, b, read_lines)
 
     module _ (tokens : List ℕ) (b : good_line 1 most_tokens text ≡ some tokens) where
-      pub bad-third : good_line 2 most_cuts text ≡ none → read_lines text ≡ bad_line 3
+      pub bad-third : good_line 2 most_cuts text ≡ none → read_lines text ≡ bad_line Cuts
       bad-third c = rw (a, b, c, read_lines)
 
       pub good-third : (cuts : List ℕ) → good_line 2 most_cuts text ≡ some cuts → read_lines text ≡ lines words tokens cuts

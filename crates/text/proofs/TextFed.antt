@@ -5,24 +5,25 @@
 --
 -- Main statements: text-fed (the answer at the end, that nothing is asked for after the third line feed, and the buffers), buffers-hold,
 -- pieces-fed and pieces-read (however the text is cut in pieces), early (an answer given before the end stands, whatever comes).
-use Rattle.std.specs.Prelude.{◌≡◌, refl, Bool, true, false, List, [], ◌∷◌, ◌++◌, ℕ, suc, ◌+◌, ◌≤◌, ◌<◌, eqb, length, set}
+use Rattle.std.specs.Prelude.{◌≡◌, refl, Bool, true, false, List, [], ◌∷◌, ◌++◌, ℕ, suc, ◌+◌, ◌≤◌, ◌<◌, eqb, length, set, Option, Some, None, Result, Err}
 use Rattle.std.proofs.Common.{sym, ◌∙◌, add-zero, zero-add, add-one, arith}
 use Rattle.std.proofs.Math.Path.{ap}
-use Rattle.std.proofs.Math.Option.{Option, none, some}
+use Rattle.std.proofs.Math.Option.{none, some}
+use Rattle.std.proofs.Math.Option.{Option as Maybe}
 use Rattle.std.proofs.lemmas.List.Edits.{sets, sets-eq}
 use Rattle.laws.specs.Ascii.{line_feed}
 use Rattle.laws.specs.Parts.{flat}
 use Rattle.laws.specs.Tests.{eqb-true}
+use Rattle.text.specs.declared.reading.Counts.{Counts}
+use Rattle.text.specs.declared.reading.Held.{Held}
 use Rattle.text.specs.declared.reading.Line.{Line}
 use Rattle.text.specs.declared.reading.Line.TheVariants.{Words, Tokens, Cuts}
 use Rattle.text.specs.declared.reading.Phase.{Phase}
 use Rattle.text.specs.declared.reading.Phase.TheVariants.{Fresh, Number, Space, Bad, Done}
 use Rattle.text.specs.declared.reading.State.{State}
-use Rattle.text.specs.declared.reading.TextAnswer.{TextAnswer}
-use Rattle.text.specs.declared.reading.TextAnswer.TheVariants.{More, BadLine, Lines}
 use Rattle.text.proofs.ReadingLaws.{bad-first, bad-second, bad-third, good-third, read-limited}
-use Rattle.text.specs.Readings.{lines_of, line_of, at_most, most_words, most_tokens, most_cuts, lines, bad_line, read_lines, read_text}
-use Rattle.text.specs.Feeding.{Held, held, start, fed_all, fed-append, bad-stays, done-stays, line_number, answer_in, answer_of, finish_in, finish_of}
+use Rattle.text.specs.Readings.{lines_of, line_of, at_most, most_words, most_tokens, most_cuts, Reading, lines, bad_line, read_lines, read_text}
+use Rattle.text.specs.Feeding.{held, start, fed_all, fed-append, bad-stays, done-stays, answer_in, answer_of, finish_in, finish_of}
 use Rattle.text.specs.LineRead.{numbers_after, line-is}
 use Rattle.text.specs.LineFed.{NoFeed, held_in, line_done, kept_all, room, Broken, Ended, line-fed, NotDone, Unfinished, unfinished-stays}
 use Rattle.text.specs.TextFed.{answer_for, onto, done, after_pieces, after, TextFed, TextHeld}
@@ -64,13 +65,13 @@ level h (cut_at line rest n) = go (at_most (room h.state) (numbers_after line Fr
     text : List ℕ
     text = line ++ (line_feed ∷ rest)
 
-    go : (numbers : Option (List ℕ)) → at_most (room h.state) (numbers_after line Fresh) ≡ numbers → Ended h numbers (fed_all (held_in h Fresh) text) rest → Level h text
+    go : (numbers : Maybe (List ℕ)) → at_most (room h.state) (numbers_after line Fresh) ≡ numbers → Ended h numbers (fed_all (held_in h Fresh) text) rest → Level h text
     go none e b = spoilt line rest (lines-cut line rest n) (line-is (room h.state) line ∙ e) b
     go (some numbers) e f = passed line rest numbers (lines-cut line rest n) (line-is (room h.state) line ∙ e) f
 
 -- what numbers that are kept one after the other leave, in each line
 abbrev at : Line → ℕ → ℕ → ℕ → State
-at l w t c = record { line = l; phase = Fresh; words = w; tokens = t; cuts = c }
+at l w t c = record { line = l; phase = Fresh; counts = record { words = w; tokens = t; cuts = c } }
 
 one-further : (n k : ℕ) → n + 1 + k ≡ n + suc k
 one-further n k = omega arith
@@ -91,13 +92,13 @@ cuts-kept [] w t c W T C = rw (add-zero c)
 cuts-kept (v ∷ numbers) w t c W T C = cuts-kept numbers w t (c + 1) W T (set C c v) ∙ rw (one-further c (length numbers), add-one c)
 
 -- what a state says that is bad, or in the midst of a line
-answer-broken : (l : Line) (h : Held) → Broken l h → answer_of h.state ≡ BadLine (line_number l)
+answer-broken : (l : Line) (h : Held) → Broken l h → answer_of h.state ≡ Some (Err l)
 answer-broken l h b = rw (b.1, b.0)
 
-finish-unfinished : (l : Line) (h : Held) → Unfinished l h → finish_of h.state ≡ BadLine (line_number l)
+finish-unfinished : (l : Line) (h : Held) → Unfinished l h → finish_of h.state ≡ Err l
 finish-unfinished l h u = rw (← u.0) (go h.state.phase u.1)
   where
-    go : (p : Phase) → NotDone p → finish_in (answer_in p h.state) h.state ≡ BadLine (line_number h.state.line)
+    go : (p : Phase) → NotDone p → finish_in (answer_in p h.state) h.state ≡ Err h.state.line
     go Fresh o = refl
     go (Number v) o = refl
     go Space o = refl
@@ -113,31 +114,30 @@ pieces-one [] h = refl
 pieces-one (piece ∷ pieces) h = pieces-one pieces (fed_all h piece) ∙ sym (fed-append h piece (flat pieces))
 
 -- after an answer other than that more is wanted nothing changes
-pub still : (h : Held) → (answer_of h.state ≡ More → ⊥) → (more : List ℕ) → fed_all h more ≡ h
+pub still : (h : Held) → (answer_of h.state ≡ None → ⊥) → (more : List ℕ) → fed_all h more ≡ h
 still h = go h.state.phase refl
   where
-    go : (p : Phase) → h.state.phase ≡ p → (answer_in p h.state ≡ More → ⊥) → (more : List ℕ) → fed_all h more ≡ h
+    go : (p : Phase) → h.state.phase ≡ p → (answer_in p h.state ≡ None → ⊥) → (more : List ℕ) → fed_all h more ≡ h
     go Fresh e n more = absurd (n refl)
     go (Number v) e n more = absurd (n refl)
     go Space e n more = absurd (n refl)
     go Bad e n more = bad-stays more h e
     go Done e n more = done-stays more h e
 
-pub finish-said : (s : State) → (answer_of s ≡ More → ⊥) → finish_of s ≡ answer_of s
+pub finish-said : (s : State) → (answer_of s ≡ None → ⊥) → Some (finish_of s) ≡ answer_of s
 finish-said s = go (answer_of s)
   where
-    go : (a : TextAnswer) → (a ≡ More → ⊥) → finish_in a s ≡ a
-    go More n = absurd (n refl)
-    go (BadLine l) n = refl
-    go (Lines w t c) n = refl
+    go : (a : Option (Result Counts Line)) → (a ≡ None → ⊥) → Some (finish_in a s) ≡ a
+    go None n = absurd (n refl)
+    go (Some said) n = refl
 
 module _ (W T C : List ℕ) where
-  bad-text : (text : List ℕ) (l : Line) → read_text text ≡ bad_line (line_number l) → Unfinished l (after W T C text)
-      → (2 < length (lines_of text) → answer_of (after W T C text).state ≡ BadLine (line_number l)) → TextFed W T C text
+  bad-text : (text : List ℕ) (l : Line) → read_text text ≡ bad_line l → Unfinished l (after W T C text)
+      → (2 < length (lines_of text) → answer_of (after W T C text).state ≡ Some (Err l)) → TextFed W T C text
   bad-text text l e u a =
       record {
         finished = finish-unfinished l (after W T C text) u ∙ ap answer_for (sym e);
-        asked = λ three. a three ∙ ap answer_for (sym e);
+        asked = λ three. a three ∙ ap (λ (r : Reading). Some (answer_for r)) (sym e);
         stored = λ words tokens cuts f. let z : ◌≡◌ {A = ℕ} 0 1 = cc in absurd (omega arith);
       }
 
@@ -235,8 +235,8 @@ module _ (W T C : List ℕ) where
   pieces-read pieces = ap (λ (h : Held). finish_of h.state) (pieces-fed pieces) ∙ (text-fed (flat pieces)).finished
 
   -- an answer other than that more is wanted stands, whatever comes
-  pub early : (text : List ℕ) → (answer_of (after W T C text).state ≡ More → ⊥) → (more : List ℕ) → answer_of (after W T C text).state ≡ answer_for (read_text (text ++ more))
+  pub early : (text : List ℕ) → (answer_of (after W T C text).state ≡ None → ⊥) → (more : List ℕ) → answer_of (after W T C text).state ≡ Some (answer_for (read_text (text ++ more)))
   early text n more =
       sym (finish-said (after W T C text).state n)
-      ∙ ap (λ (h : Held). finish_of h.state) (sym (fed-append (held start W T C) text more ∙ still (after W T C text) n more))
-      ∙ (text-fed (text ++ more)).finished
+      ∙ ap (λ (h : Held). Some (finish_of h.state)) (sym (fed-append (held start W T C) text more ∙ still (after W T C text) n more))
+      ∙ ap (λ (r : Result Counts Line). Some r) (text-fed (text ++ more)).finished

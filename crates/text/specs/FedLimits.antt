@@ -2,75 +2,74 @@
 -- Document 01, "Sample rows": "Its own buffers hold 1,024 tokens, 2,564 grammar words and 64 cuts".
 -- Rests on Readings, Feeding.
 --
--- Main definitions: InLimits, SameLengths, AnswerLimits.
+-- Main definitions: CountsInLimits, InLimits, SameLengths, AnswerLimits.
 -- Main statements: limits-start, limits-fed, lengths-fed (a buffer keeps its length), limits-answer, limits-finish.
-use Rattle.std.specs.Prelude.{◌≡◌, refl, false, List, [], ◌∷◌, ℕ, ◌+◌, ◌-◌, ◌*◌, ◌≤◌, leb, eqb, length}
+use Rattle.std.specs.Prelude.{◌≡◌, refl, false, List, [], ◌∷◌, ℕ, ◌+◌, ◌-◌, ◌*◌, ◌≤◌, leb, eqb, length, Option, Some, None, Result, Ok, Err, IfSome}
 use Rattle.std.proofs.Common.{subst, ◌∙◌, arith, length-set}
 use Rattle.laws.specs.Ascii.{line_feed, space}
 use Rattle.laws.specs.Decimals.{is_digit}
 use Rattle.laws.specs.Picks.{pick-with}
 use Rattle.laws.specs.Tests.{leb-false}
+use Rattle.text.specs.declared.reading.Counts.{Counts}
+use Rattle.text.specs.declared.reading.Held.{Held}
 use Rattle.text.specs.declared.reading.Line.{Line}
 use Rattle.text.specs.declared.reading.Line.TheVariants.{Words, Tokens, Cuts}
 use Rattle.text.specs.declared.reading.Phase.{Phase}
 use Rattle.text.specs.declared.reading.Phase.TheVariants.{Fresh, Number, Space, Bad, Done}
 use Rattle.text.specs.declared.reading.State.{State}
-use Rattle.text.specs.declared.reading.TextAnswer.{TextAnswer}
-use Rattle.text.specs.declared.reading.TextAnswer.TheVariants.{More, BadLine, Lines}
 use Rattle.text.specs.Readings.{most_words, most_tokens, most_cuts}
-use Rattle.text.specs.Feeding.{Held, start, within, in_phase, started, next_line, opened, longer, full, kept_in, kept, followed, ended}
+use Rattle.text.specs.Feeding.{start, within, in_phase, started, next_line, opened, longer, full, kept_in, kept, followed, ended}
 use Rattle.text.specs.Feeding.{fed_in, fed, fed_all, fed-in, answer_in, answer_of, finish_in, finish_of}
 
-pub record InLimits (s : State) : Type 0 where
-  pub words_in : s.words ≤ most_words
-  pub tokens_in : s.tokens ≤ most_tokens
-  pub cuts_in : s.cuts ≤ most_cuts
+pub record CountsInLimits (c : Counts) : Type 0 where
+  pub words_in : c.words ≤ most_words
+  pub tokens_in : c.tokens ≤ most_tokens
+  pub cuts_in : c.cuts ≤ most_cuts
+
+abbrev pub InLimits : State → Type 0
+InLimits s = CountsInLimits s.counts
 
 pub limits-start : InLimits start
 limits-start = record { words_in = omega arith; tokens_in = omega arith; cuts_in = omega arith }
 
-limits-phase : (s : State) (p : Phase) → InLimits s → InLimits (in_phase s p)
-limits-phase s p i = record { words_in = i.words_in; tokens_in = i.tokens_in; cuts_in = i.cuts_in }
-
 limits-next : (s : State) (l : Line) → InLimits s → InLimits (next_line s l)
-limits-next s Words i = record { words_in = i.words_in; tokens_in = i.tokens_in; cuts_in = i.cuts_in }
-limits-next s Tokens i = record { words_in = i.words_in; tokens_in = i.tokens_in; cuts_in = i.cuts_in }
-limits-next s Cuts i = limits-phase s Done i
+limits-next s Words i = i
+limits-next s Tokens i = i
+limits-next s Cuts i = i
 
 limits-kept : (h : Held) (v : ℕ) → full h.state ≡ false → InLimits h.state → InLimits (kept h v).state
 limits-kept h v = go h.state.line
   where
     at : Line → Held
-    at l = within h (record { line = l; phase = h.state.phase; words = h.state.words; tokens = h.state.tokens; cuts = h.state.cuts })
+    at l = within h (record h.state { line = l })
 
     go : (l : Line) → full (at l).state ≡ false → InLimits h.state → InLimits (kept (at l) v).state
-    go Words f i = record { words_in = omega (arith, leb-false most_words h.state.words f); tokens_in = i.tokens_in; cuts_in = i.cuts_in }
-    go Tokens f i = record { words_in = i.words_in; tokens_in = omega (arith, leb-false most_tokens h.state.tokens f); cuts_in = i.cuts_in }
-    go Cuts f i = record { words_in = i.words_in; tokens_in = i.tokens_in; cuts_in = omega (arith, leb-false most_cuts h.state.cuts f) }
+    go Words f i = record { words_in = omega (arith, leb-false most_words h.state.counts.words f); tokens_in = i.tokens_in; cuts_in = i.cuts_in }
+    go Tokens f i = record { words_in = i.words_in; tokens_in = omega (arith, leb-false most_tokens h.state.counts.tokens f); cuts_in = i.cuts_in }
+    go Cuts f i = record { words_in = i.words_in; tokens_in = i.tokens_in; cuts_in = omega (arith, leb-false most_cuts h.state.counts.cuts f) }
 
 module _ (h : Held) (byte : ℕ) (i : InLimits h.state) where
   abbrev Fine : Held → Type 0
   Fine k = InLimits k.state
 
   limits-started : InLimits (started h.state byte)
-  limits-started = pick-with InLimits (is_digit byte) (λ d. limits-phase h.state (Number (byte - 48)) i) (λ d. limits-phase h.state Bad i)
+  limits-started = pick-with InLimits (is_digit byte) (λ d. i) (λ d. i)
 
   limits-ended : (v : ℕ) → Fine (ended h v byte)
-  limits-ended v = pick-with Fine (full h.state) (λ f. limits-phase h.state Bad i) (λ f. follow (limits-kept h v f i))
+  limits-ended v = pick-with Fine (full h.state) (λ f. i) (λ f. follow (limits-kept h v f i))
     where
       s : State
       s = (kept h v).state
 
       follow : InLimits s → InLimits (followed s byte)
       follow j =
-          pick-with InLimits (eqb byte space) (λ e. limits-phase s Space j)
-          (λ e. pick-with InLimits (eqb byte line_feed) (λ f. limits-next s s.line j) (λ f. limits-phase s Bad j))
+          pick-with InLimits (eqb byte space) (λ e. j) (λ e. pick-with InLimits (eqb byte line_feed) (λ f. limits-next s s.line j) (λ f. j))
 
   limits-in : (p : Phase) → Fine (fed_in p h byte)
   limits-in Fresh = pick-with InLimits (eqb byte line_feed) (λ f. limits-next h.state h.state.line i) (λ f. limits-started)
   limits-in (Number v) =
       pick-with Fine (is_digit byte)
-      (λ d. pick-with InLimits (leb (v * 10 + (byte - 48)) 65535) (λ f. limits-phase h.state (Number (v * 10 + (byte - 48))) i) (λ f. limits-phase h.state Bad i))
+      (λ d. pick-with InLimits (leb (v * 10 + (byte - 48)) 65535) (λ f. i) (λ f. i))
       (λ d. limits-ended v)
   limits-in Space = limits-started
   limits-in Bad = i
@@ -93,9 +92,9 @@ same-all : (h : Held) (s : State) → SameLengths h (within h s)
 same-all h s = record { words_long = refl; tokens_long = refl; cuts_long = refl }
 
 same-kept : (h : Held) (v : ℕ) (l : Line) → SameLengths h (kept_in l h v)
-same-kept h v Words = record { words_long = length-set h.words h.state.words v; tokens_long = refl; cuts_long = refl }
-same-kept h v Tokens = record { words_long = refl; tokens_long = length-set h.tokens h.state.tokens v; cuts_long = refl }
-same-kept h v Cuts = record { words_long = refl; tokens_long = refl; cuts_long = length-set h.cuts h.state.cuts v }
+same-kept h v Words = record { words_long = length-set h.words h.state.counts.words v; tokens_long = refl; cuts_long = refl }
+same-kept h v Tokens = record { words_long = refl; tokens_long = length-set h.tokens h.state.counts.tokens v; cuts_long = refl }
+same-kept h v Cuts = record { words_long = refl; tokens_long = refl; cuts_long = length-set h.cuts h.state.counts.cuts v }
 
 same-ended : (h : Held) (v byte : ℕ) → SameLengths h (ended h v byte)
 same-ended h v byte =
@@ -122,25 +121,23 @@ lengths-fed (byte ∷ piece) h =
     }
 
 -- and so do the counts of an answer
-abbrev pub AnswerLimits : TextAnswer → Type 0
-AnswerLimits More = Unit {0}
-AnswerLimits (BadLine l) = Unit {0}
-AnswerLimits (Lines w t c) = (w ≤ most_words) × (t ≤ most_tokens) × (c ≤ most_cuts)
+abbrev pub AnswerLimits : Result Counts Line → Type 0
+AnswerLimits (Err l) = Unit {0}
+AnswerLimits (Ok c) = CountsInLimits c
 
-pub limits-answer : (s : State) → InLimits s → AnswerLimits (answer_of s)
+pub limits-answer : (s : State) → InLimits s → IfSome (answer_of s) AnswerLimits
 limits-answer s i = go s.phase
   where
-    go : (p : Phase) → AnswerLimits (answer_in p s)
+    go : (p : Phase) → IfSome (answer_in p s) AnswerLimits
     go Fresh = tt
     go (Number v) = tt
     go Space = tt
     go Bad = tt
-    go Done = (i.words_in, i.tokens_in, i.cuts_in)
+    go Done = i
 
 pub limits-finish : (s : State) → InLimits s → AnswerLimits (finish_of s)
 limits-finish s i = go (answer_of s) (limits-answer s i)
   where
-    go : (a : TextAnswer) → AnswerLimits a → AnswerLimits (finish_in a s)
-    go More l = tt
-    go (BadLine n) l = tt
-    go (Lines w t c) l = l
+    go : (a : Option (Result Counts Line)) → IfSome a AnswerLimits → AnswerLimits (finish_in a s)
+    go None l = tt
+    go (Some said) l = l

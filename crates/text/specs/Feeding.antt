@@ -2,30 +2,24 @@
 -- Document 01, "Sample rows"; the sentences stand in Readings. TextFed shows that this reads what Readings says.
 -- Rests on Readings.
 --
--- Main definitions: Held, fed, fed_all, start, answer_of, finish_of.
+-- Main definitions: held (a `Held` of src/reading.rt from its parts), fed, fed_all, start, answer_of, finish_of.
 -- Main statements: fed-append (a piece and then another are one piece), bad-stays, done-stays (after that nothing changes).
-use Rattle.std.specs.Prelude.{◌≡◌, refl, Bool, true, false, List, [], ◌∷◌, ◌++◌, ℕ, ◌+◌, ◌-◌, ◌*◌, ◌≤◌, ◌<◌, leb, eqb, length, get_or, drop, set}
+use Rattle.std.specs.Prelude.{◌≡◌, refl, Bool, true, false, List, [], ◌∷◌, ◌++◌, ℕ, ◌+◌, ◌-◌, ◌*◌, ◌≤◌, ◌<◌, leb, eqb, length, get_or, drop, set, Option, Some, None, Result, Ok, Err}
 use Rattle.std.proofs.Common.{sym, ◌∙◌, add-one, drop_of_length-le, drop-cons}
 use Rattle.std.proofs.Math.Path.{ap}
 use Rattle.laws.specs.Ascii.{line_feed, space}
 use Rattle.laws.specs.Decimals.{is_digit}
 use Rattle.laws.specs.Picks.{pick}
+use Rattle.text.specs.declared.reading.Counts.{Counts}
+use Rattle.text.specs.declared.reading.Held.{Held}
 use Rattle.text.specs.declared.reading.Line.{Line}
 use Rattle.text.specs.declared.reading.Line.TheVariants.{Words, Tokens, Cuts}
 use Rattle.text.specs.declared.reading.Phase.{Phase}
 use Rattle.text.specs.declared.reading.Phase.TheVariants.{Fresh, Number, Space, Bad, Done}
 use Rattle.text.specs.declared.reading.State.{State}
-use Rattle.text.specs.declared.reading.TextAnswer.{TextAnswer}
-use Rattle.text.specs.declared.reading.TextAnswer.TheVariants.{More, BadLine, Lines}
 use Rattle.text.specs.Readings.{most_words, most_tokens, most_cuts}
 
 -- a state, and what the buffers hold
-pub record Held : Type 0 where
-  pub state : State
-  pub words : List ℕ
-  pub tokens : List ℕ
-  pub cuts : List ℕ
-
 abbrev pub held : State → List ℕ → List ℕ → List ℕ → Held
 held s w t c = record { state = s; words = w; tokens = t; cuts = c }
 
@@ -35,11 +29,11 @@ within h s = held s h.words h.tokens h.cuts
 
 -- nothing has been read
 abbrev pub start : State
-start = record { line = Words; phase = Fresh; words = 0; tokens = 0; cuts = 0 }
+start = record { line = Words; phase = Fresh; counts = record { words = 0; tokens = 0; cuts = 0 } }
 
 -- the same state in another phase
 abbrev pub in_phase : State → Phase → State
-in_phase s p = record { line = s.line; phase = p; words = s.words; tokens = s.tokens; cuts = s.cuts }
+in_phase s p = record s { phase = p }
 
 -- a number must start: a digit
 abbrev pub started : State → ℕ → State
@@ -47,8 +41,8 @@ started s byte = pick (is_digit byte) (in_phase s (Number (byte - 48))) (in_phas
 
 -- the line ends, and the next begins; the third is the last
 abbrev pub next_line : State → Line → State
-next_line s Words = record { line = Tokens; phase = Fresh; words = s.words; tokens = s.tokens; cuts = s.cuts }
-next_line s Tokens = record { line = Cuts; phase = Fresh; words = s.words; tokens = s.tokens; cuts = s.cuts }
+next_line s Words = record s { line = Tokens; phase = Fresh }
+next_line s Tokens = record s { line = Cuts; phase = Fresh }
 next_line s Cuts = in_phase s Done
 
 abbrev pub line_ended : State → State
@@ -64,9 +58,9 @@ longer s value digit = pick (leb (value * 10 + (digit - 48)) 65535) (in_phase s 
 
 -- how many numbers the line has, and how many it may have
 abbrev pub counted : State → Line → ℕ
-counted s Words = s.words
-counted s Tokens = s.tokens
-counted s Cuts = s.cuts
+counted s Words = s.counts.words
+counted s Tokens = s.counts.tokens
+counted s Cuts = s.counts.cuts
 
 abbrev pub limit : Line → ℕ
 limit Words = most_words
@@ -79,26 +73,14 @@ full s = leb (limit s.line) (counted s s.line)
 -- one more number of the line, in the line's buffer
 abbrev pub kept_in : Line → Held → ℕ → Held
 kept_in Words h v =
-    record {
-      state = record { line = h.state.line; phase = h.state.phase; words = h.state.words + 1; tokens = h.state.tokens; cuts = h.state.cuts };
-      words = set h.words h.state.words v;
-      tokens = h.tokens;
-      cuts = h.cuts;
-    }
+    let c = h.state.counts in
+    record h { state = record h.state { counts = record c { words = c.words + 1 } }; words = set h.words c.words v }
 kept_in Tokens h v =
-    record {
-      state = record { line = h.state.line; phase = h.state.phase; words = h.state.words; tokens = h.state.tokens + 1; cuts = h.state.cuts };
-      words = h.words;
-      tokens = set h.tokens h.state.tokens v;
-      cuts = h.cuts;
-    }
+    let c = h.state.counts in
+    record h { state = record h.state { counts = record c { tokens = c.tokens + 1 } }; tokens = set h.tokens c.tokens v }
 kept_in Cuts h v =
-    record {
-      state = record { line = h.state.line; phase = h.state.phase; words = h.state.words; tokens = h.state.tokens; cuts = h.state.cuts + 1 };
-      words = h.words;
-      tokens = h.tokens;
-      cuts = set h.cuts h.state.cuts v;
-    }
+    let c = h.state.counts in
+    record h { state = record h.state { counts = record c { cuts = c.cuts + 1 } }; cuts = set h.cuts c.cuts v }
 
 abbrev pub kept : Held → ℕ → Held
 kept h v = kept_in h.state.line h v
@@ -133,24 +115,23 @@ line_number Words = 1
 line_number Tokens = 2
 line_number Cuts = 3
 
--- what the text says so far
-abbrev pub answer_in : Phase → State → TextAnswer
-answer_in Fresh s = More
-answer_in (Number value) s = More
-answer_in Space s = More
-answer_in Bad s = BadLine (line_number s.line)
-answer_in Done s = Lines s.words s.tokens s.cuts
+-- what the text says so far: nothing while more of it is wanted
+abbrev pub answer_in : Phase → State → Option (Result Counts Line)
+answer_in Fresh s = None
+answer_in (Number value) s = None
+answer_in Space s = None
+answer_in Bad s = Some (Err s.line)
+answer_in Done s = Some (Ok s.counts)
 
-abbrev pub answer_of : State → TextAnswer
+abbrev pub answer_of : State → Option (Result Counts Line)
 answer_of s = answer_in s.phase s
 
 -- what it says where no more comes: the line that is being read is without its line feed
-abbrev pub finish_in : TextAnswer → State → TextAnswer
-finish_in More s = BadLine (line_number s.line)
-finish_in (BadLine bad) s = BadLine bad
-finish_in (Lines w t c) s = Lines w t c
+abbrev pub finish_in : Option (Result Counts Line) → State → Result Counts Line
+finish_in None s = Err s.line
+finish_in (Some said) s = said
 
-abbrev pub finish_of : State → TextAnswer
+abbrev pub finish_of : State → Result Counts Line
 finish_of s = finish_in (answer_of s) s
 
 -- a number ends where its line is full, and where it is not

@@ -13,13 +13,14 @@ use Rattle.laws.specs.Ascii.{line_feed, space}
 use Rattle.laws.specs.Decimals.{is_digit}
 use Rattle.laws.specs.Picks.{pick}
 use Rattle.laws.specs.Tests.{le-leb, lt-leb}
+use Rattle.text.specs.declared.reading.Held.{Held}
 use Rattle.text.specs.declared.reading.Line.{Line}
 use Rattle.text.specs.declared.reading.Line.TheVariants.{Words, Tokens, Cuts}
 use Rattle.text.specs.declared.reading.Phase.{Phase}
 use Rattle.text.specs.declared.reading.Phase.TheVariants.{Fresh, Number, Space, Bad, Done}
 use Rattle.text.specs.declared.reading.State.{State}
 use Rattle.text.specs.Readings.{both, at_most}
-use Rattle.text.specs.Feeding.{Held, within, in_phase, started, line_ended, opened, longer, counted, limit, full, kept, followed, ended, fed_in, fed, fed_all}
+use Rattle.text.specs.Feeding.{within, in_phase, started, line_ended, opened, longer, counted, limit, full, kept, followed, ended, fed_in, fed, fed_all}
 use Rattle.text.specs.Feeding.{ended-full, ended-kept, fed-fresh, fed-space, fed-longer, fed-ended, fed-in, bad-stays}
 use Rattle.text.specs.LineRead.{Kind, digit, gap, other, kind, numbers_after}
 
@@ -46,7 +47,7 @@ room s = limit s.line - counted s s.line
 
 -- the same at another line
 abbrev at_line : Held → Line → Phase → Held
-at_line h l p = within h (record { line = l; phase = p; words = h.state.words; tokens = h.state.tokens; cuts = h.state.cuts })
+at_line h l p = within h (record { line = l; phase = p; counts = h.state.counts })
 
 -- what goes by the line does not go by the phase
 opened-any : (h : Held) (p : Phase) (byte : ℕ) → within h (opened (in_phase h.state p) byte) ≡ within h (opened h.state byte)

@@ -1,14 +1,15 @@
 -- The promises of reading admit one answer only: what is given back, and every word of the three buffers, good text or bad.
 -- Document 01, "How far promises go": "Prove that the promise admits one answer only". The contracts of feed and feed_piece are one equation of
--- a state and the three buffers, that of read_text an equation of the answer and a record of what each buffer holds; all others of this
--- crate are equations of their answer.
+-- a state and the three buffers, that of read_text an equation of the answer and one of these; all others of this crate are equations of
+-- their answer.
 -- Rests on Feeding and TextFed.
 --
 -- Main statements: held-once (feed, feed_piece), text-held-once (read_text).
 use Rattle.std.specs.Prelude.{◌≡◌, List, ℕ}
 use Rattle.std.proofs.Common.{sym, ap, ◌∙◌}
+use Rattle.text.specs.declared.reading.Held.{Held}
 use Rattle.text.specs.declared.reading.State.{State}
-use Rattle.text.specs.Feeding.{Held, held}
+use Rattle.text.specs.Feeding.{held}
 use Rattle.text.specs.TextFed.{TextHeld}
 
 -- `promise` is what fed, or fed_all, gives

@@ -13,6 +13,8 @@ use Rattle.std.proofs.Math.ListN.{get_elem?}
 use Rattle.laws.specs.Ascii.{line_feed, space}
 use Rattle.laws.specs.Decimals.{all_digits, value_from}
 use Rattle.laws.specs.Picks.{pick}
+use Rattle.text.specs.declared.reading.Line.{Line}
+use Rattle.text.specs.declared.reading.Line.TheVariants.{Words, Tokens, Cuts}
 
 -- where bytes are divided one more part starts in front; any other byte stands at the front of the first part, if there is one
 abbrev pub divided : Bool → ℕ → List (List ℕ) → List (List ℕ)
@@ -80,16 +82,16 @@ most_cuts = 64
 
 pub data Reading : Type 0 where
   lines : (words tokens cuts : List ℕ) → Reading
-  bad_line : ℕ → Reading
+  bad_line : Line → Reading
 
 -- the numbers of the first three lines, or the first of them that is bad
 abbrev pub read_lines : List (List ℕ) → Reading
 read_lines text =
     elim (good_line 0 most_words text) [
-      | none ↦ bad_line 1
+      | none ↦ bad_line Words
       | some words ↦ elim (good_line 1 most_tokens text) [
-        | none ↦ bad_line 2
-        | some tokens ↦ elim (good_line 2 most_cuts text) [ none ↦ bad_line 3 | some cuts ↦ lines words tokens cuts ]
+        | none ↦ bad_line Tokens
+        | some tokens ↦ elim (good_line 2 most_cuts text) [ none ↦ bad_line Cuts | some cuts ↦ lines words tokens cuts ]
       ]
     ]
 

@@ -5,20 +5,25 @@
 -- Rests on Readings, Feeding.
 --
 -- Main definitions: answer_for, onto, after, after_pieces, TextFed, TextHeld.
-use Rattle.std.specs.Prelude.{◌≡◌, List, [], ◌∷◌, ◌++◌, ℕ, ◌<◌, length, drop}
+use Rattle.std.specs.Prelude.{◌≡◌, List, [], ◌∷◌, ◌++◌, ℕ, ◌<◌, length, drop, Some, Result, Ok, Err}
 use Rattle.std.proofs.lemmas.List.Edits.{sets}
+use Rattle.text.specs.declared.reading.Counts.{Counts}
+use Rattle.text.specs.declared.reading.Held.{Held}
+use Rattle.text.specs.declared.reading.Line.{Line}
 use Rattle.text.specs.declared.reading.Line.TheVariants.{Cuts}
 use Rattle.text.specs.declared.reading.Phase.TheVariants.{Done}
 use Rattle.text.specs.declared.reading.State.{State}
-use Rattle.text.specs.declared.reading.TextAnswer.{TextAnswer}
-use Rattle.text.specs.declared.reading.TextAnswer.TheVariants.{BadLine, Lines}
 use Rattle.text.specs.Readings.{lines_of, Reading, lines, bad_line, read_text}
-use Rattle.text.specs.Feeding.{Held, held, start, fed_all, answer_of, finish_of}
+use Rattle.text.specs.Feeding.{held, start, fed_all, answer_of, finish_of}
 
--- the answer for a reading: the line, or how many numbers there are
-abbrev pub answer_for : Reading → TextAnswer
-answer_for (lines words tokens cuts) = Lines (length words) (length tokens) (length cuts)
-answer_for (bad_line l) = BadLine l
+-- how many numbers there are
+abbrev pub counts_of : List ℕ → List ℕ → List ℕ → Counts
+counts_of words tokens cuts = record { words = length words; tokens = length tokens; cuts = length cuts }
+
+-- the answer for a reading: how many numbers there are, or the line
+abbrev pub answer_for : Reading → Result Counts Line
+answer_for (lines words tokens cuts) = Ok (counts_of words tokens cuts)
+answer_for (bad_line l) = Err l
 
 -- a buffer with numbers at its front, the rest as it was
 abbrev pub onto : List ℕ → List ℕ → List ℕ
@@ -26,7 +31,7 @@ onto numbers buffer = numbers ++ drop (length numbers) buffer
 
 -- all three lines have been read
 abbrev pub done : List ℕ → List ℕ → List ℕ → State
-done words tokens cuts = record { line = Cuts; phase = Done; words = length words; tokens = length tokens; cuts = length cuts }
+done words tokens cuts = record { line = Cuts; phase = Done; counts = counts_of words tokens cuts }
 
 -- fed in pieces, one after the other
 abbrev pub after_pieces : List (List ℕ) → Held → Held
@@ -41,7 +46,7 @@ module _ (W T C : List ℕ) where
   -- what is said of a text
   pub record TextFed (text : List ℕ) : Type 0 where
     pub finished : finish_of (after text).state ≡ answer_for (read_text text)
-    pub asked : 2 < length (lines_of text) → answer_of (after text).state ≡ answer_for (read_text text)
+    pub asked : 2 < length (lines_of text) → answer_of (after text).state ≡ Some (answer_for (read_text text))
     pub stored : (words tokens cuts : List ℕ) → read_text text ≡ lines words tokens cuts
         → after text ≡ held (done words tokens cuts) (sets W 0 words) (sets T 0 tokens) (sets C 0 cuts)
 

@@ -1,27 +1,18 @@
 // Three lines of decimal numbers read in pieces: grammar words, tokens, cuts. Document 01, "Sample rows".
-// A state goes in by value and comes back after each byte; the numbers go to lent buffers. What a whole text says is `read_text`.
-ghost use Rattle.std.specs.Prelude.{◌≡◌, true, false};
+// What has been read stands in a `Held`, which takes a byte or a piece at a time. What a whole text says is `read_text`.
+ghost use Rattle.std.specs.Prelude.{◌≡◌, ◌+◌, ◌<◌, ◌≤◌, length, slice_set, MatchBool, not, replicate, true};
 ghost use Rattle.laws.specs.Decimals.{is_digit};
+ghost use Rattle.laws.specs.Picks.{pick};
 ghost use Rattle.text.specs.Readings.{read_text};
-ghost use Rattle.text.specs.Feeding.{start, in_phase, started, line_ended, opened, longer, full, held, kept, followed, ended, fed, fed_all, line_number, answer_of, finish_of};
-ghost use Rattle.text.specs.TextFed.{answer_for, TextHeld};
+ghost use Rattle.text.specs.Feeding.{held, start, in_phase, started, line_ended, opened, longer, full, kept, followed, ended, fed, fed_all, answer_of, finish_of};
+ghost use Rattle.text.specs.TextFed.{answer_for, after};
 
-const LINE_FEED: u8 = 10;
-
-const SPACE: u8 = 32;
-
-const MOST_WORDS: usize = 2564;
-
-const MOST_TOKENS: usize = 1024;
-
-const MOST_CUTS: usize = 64;
-
-// The line that is being read.
+// The line that is being read, by its number.
 #[derive(Clone, Copy)]
 pub enum Line {
-    Words,
-    Tokens,
-    Cuts,
+    Words = 1,
+    Tokens = 2,
+    Cuts = 3,
 }
 
 // What stood last in it.
@@ -39,282 +30,212 @@ pub enum Phase {
     Done,
 }
 
-// How far a text has been read, and how many numbers of each line are in the buffers.
+// How many numbers of each line there are.
 #[derive(Clone, Copy)]
-pub struct State {
-    pub line: Line,
-    pub phase: Phase,
+pub struct Counts {
     pub words: usize,
     pub tokens: usize,
     pub cuts: usize,
 }
 
-// What a text says so far: more of it is wanted; or the first bad line, of 1 to 3; or how many words, tokens and cuts there are.
+// How far a text has been read, and how many numbers of each line are in the buffers.
 #[derive(Clone, Copy)]
-pub enum TextAnswer {
-    More,
-    BadLine(u32),
-    Lines(usize, usize, usize),
+pub struct State {
+    pub line: Line,
+    pub phase: Phase,
+    pub counts: Counts,
 }
 
-// Nothing has been read.
-pub fn start() -> State
-    ensures { result ≡ start }
-{
-    State {
-        line: Line::Words,
-        phase: Phase::Fresh,
-        words: 0,
-        tokens: 0,
-        cuts: 0,
-    }
-}
-
-fn is_digit(byte: u8) -> bool
-    ensures { result ≡ is_digit byte }
-{
-    48 <= byte && byte <= 57
-}
-
-// The same state in another phase.
-fn in_phase(state: State, phase: Phase) -> State
-    ensures { result ≡ in_phase state phase }
-{
-    let line = state.line;
-    State {
-        line: line,
-        phase: phase,
-        words: state.words,
-        tokens: state.tokens,
-        cuts: state.cuts,
-    }
-}
-
-// A number must start.
-fn started(state: State, byte: u8) -> State
-    ensures { result ≡ started state byte }
-{
-    if is_digit(byte) {
-        return in_phase(state, Phase::Number((byte - 48) as u16));
-    }
-    in_phase(state, Phase::Bad)
-}
-
-// The line ends here, and the next begins; the third is the last.
-fn line_ended(state: State) -> State
-    ensures { result ≡ line_ended state }
-{
-    let line = state.line;
-    match line {
-        Line::Words => State {
-            line: Line::Tokens,
+impl State {
+    // Nothing has been read.
+    pub fn start() -> State
+        ensures { result ≡ start }
+    {
+        State {
+            line: Line::Words,
             phase: Phase::Fresh,
-            words: state.words,
-            tokens: state.tokens,
-            cuts: state.cuts,
-        },
-        Line::Tokens => State {
-            line: Line::Cuts,
+            counts: Counts {
+                words: 0,
+                tokens: 0,
+                cuts: 0,
+            },
+        }
+    }
+
+    // The same state in another phase.
+    fn in_phase(self, phase: Phase) -> State
+        ensures { result ≡ in_phase self phase }
+    {
+        State { phase, ..self }
+    }
+
+    // A number must start.
+    fn started(self, byte: u8) -> State
+        ensures { result ≡ started self byte }
+    {
+        if byte.is_ascii_digit() {
+            self.in_phase(Phase::Number(u16::from(byte - b'0')))
+        } else {
+            self.in_phase(Phase::Bad)
+        }
+    }
+
+    // The line ends here, and the next begins; the third is the last.
+    fn line_ended(self) -> State
+        ensures { result ≡ line_ended self }
+    {
+        let line = match self.line {
+            Line::Words => Line::Tokens,
+            Line::Tokens => Line::Cuts,
+            Line::Cuts => return self.in_phase(Phase::Done),
+        };
+        State {
+            line,
             phase: Phase::Fresh,
-            words: state.words,
-            tokens: state.tokens,
-            cuts: state.cuts,
-        },
-        Line::Cuts => in_phase(state, Phase::Done),
-    }
-}
-
-// A line begins: it is empty, or a number must start.
-fn opened(state: State, byte: u8) -> State
-    ensures { result ≡ opened state byte }
-{
-    if byte == LINE_FEED {
-        return line_ended(state);
-    }
-    started(state, byte)
-}
-
-// One more digit of a number.
-fn longer(state: State, value: u16, digit: u8) -> State
-    requires { is_digit digit ≡ true }
-    ensures { result ≡ longer state value digit }
-{
-    let next = (value as u32) * 10 + ((digit - 48) as u32);
-    if next <= 65535 {
-        return in_phase(state, Phase::Number(next as u16));
-    }
-    in_phase(state, Phase::Bad)
-}
-
-// The line has as many numbers as it may have.
-fn full(state: State) -> bool
-    ensures { result ≡ full state }
-{
-    let line = state.line;
-    match line {
-        Line::Words => MOST_WORDS <= state.words,
-        Line::Tokens => MOST_TOKENS <= state.tokens,
-        Line::Cuts => MOST_CUTS <= state.cuts,
-    }
-}
-
-// One more number of the line, in the line's buffer.
-fn kept(
-    state: State,
-    value: u16,
-    words: &mut [u16; 2564],
-    tokens: &mut [u16; 1024],
-    cuts: &mut [u16; 64],
-) -> State
-    requires { full state ≡ false }
-    ensures { held result words.new tokens.new cuts.new ≡ kept (held state words.old tokens.old cuts.old) value }
-{
-    let line = state.line;
-    let mut next = state;
-    match line {
-        Line::Words => {
-            let n = state.words;
-            words[n] = value;
-            next.words = n + 1;
-        }
-        Line::Tokens => {
-            let n = state.tokens;
-            tokens[n] = value;
-            next.tokens = n + 1;
-        }
-        Line::Cuts => {
-            let n = state.cuts;
-            cuts[n] = value;
-            next.cuts = n + 1;
+            ..self
         }
     }
-    next
-}
 
-// What may follow a number: a space, or the line's end.
-fn followed(state: State, byte: u8) -> State
-    ensures { result ≡ followed state byte }
-{
-    if byte == SPACE {
-        return in_phase(state, Phase::Space);
-    }
-    if byte == LINE_FEED {
-        return line_ended(state);
-    }
-    in_phase(state, Phase::Bad)
-}
-
-// A number ends at a byte that is no digit.
-fn ended(
-    state: State,
-    value: u16,
-    byte: u8,
-    words: &mut [u16; 2564],
-    tokens: &mut [u16; 1024],
-    cuts: &mut [u16; 64],
-) -> State
-    ensures { held result words.new tokens.new cuts.new ≡ ended (held state words.old tokens.old cuts.old) value byte }
-{
-    if full(state) {
-        return in_phase(state, Phase::Bad);
-    }
-    let next = kept(state, value, words, tokens, cuts);
-    followed(next, byte)
-}
-
-// After one byte.
-#[tactic(auto, unfolding(crate::specs::Feeding::fed))]
-pub fn feed(
-    state: State,
-    byte: u8,
-    words: &mut [u16; 2564],
-    tokens: &mut [u16; 1024],
-    cuts: &mut [u16; 64],
-) -> State
-    ensures { held result words.new tokens.new cuts.new ≡ fed (held state words.old tokens.old cuts.old) byte }
-{
-    let phase = state.phase;
-    match phase {
-        Phase::Fresh => opened(state, byte),
-        Phase::Number(value) => {
-            if is_digit(byte) {
-                return longer(state, value, byte);
-            }
-            ended(state, value, byte, words, tokens, cuts)
+    // A line begins: it is empty, or a number must start.
+    fn opened(self, byte: u8) -> State
+        ensures { result ≡ opened self byte }
+    {
+        match byte {
+            b'\n' => self.line_ended(),
+            _ => self.started(byte),
         }
-        Phase::Space => started(state, byte),
-        Phase::Bad => state,
-        Phase::Done => state,
+    }
+
+    // One more digit of a number.
+    fn longer(self, value: u16, digit: u8) -> State
+        requires { is_digit digit ≡ true }
+        ensures { result ≡ longer self value digit }
+    {
+        let next = u32::from(value) * 10 + u32::from(digit - b'0');
+        match u16::try_from(next) {
+            Ok(next) => self.in_phase(Phase::Number(next)),
+            Err(_) => self.in_phase(Phase::Bad),
+        }
+    }
+
+    // What may follow a number: a space, or the line's end.
+    fn followed(self, byte: u8) -> State
+        ensures { result ≡ followed self byte }
+    {
+        match byte {
+            b' ' => self.in_phase(Phase::Space),
+            b'\n' => self.line_ended(),
+            _ => self.in_phase(Phase::Bad),
+        }
+    }
+
+    // What the text says so far: how many numbers each line has, or the first bad line; nothing while more of it is wanted.
+    pub fn answer(self) -> Option<Result<Counts, Line>>
+        ensures { result ≡ answer_of self }
+    {
+        match self.phase {
+            Phase::Fresh | Phase::Number(_) | Phase::Space => None,
+            Phase::Bad => Some(Err(self.line)),
+            Phase::Done => Some(Ok(self.counts)),
+        }
+    }
+
+    // What it says where no more comes: a line without its line feed is missing.
+    pub fn finish(self) -> Result<Counts, Line>
+        ensures { result ≡ finish_of self }
+    {
+        self.answer().unwrap_or(Err(self.line))
     }
 }
 
-// After the bytes of a piece.
-pub fn feed_piece(
-    state: State,
-    piece: &[u8],
-    words: &mut [u16; 2564],
-    tokens: &mut [u16; 1024],
-    cuts: &mut [u16; 64],
-) -> State
-    ensures { held result words.new tokens.new cuts.new ≡ fed_all (held state words.old tokens.old cuts.old) piece.now }
-{
-    let mut read = state;
-    let mut i: usize = 0;
-    while i < piece.len() {
-        read = feed(read, piece[i], words, tokens, cuts);
-        i += 1;
-    }
-    read
+// What has been read of a text: how far, and the numbers of its lines, each line's at the front of its buffer. Any state may stand beside any numbers.
+#[derive(Drop)]
+pub struct Held {
+    pub state: State,
+    pub words: [u16; 2564],
+    pub tokens: [u16; 1024],
+    pub cuts: [u16; 64],
 }
 
-// The number of a line.
-fn line_number(line: Line) -> u32
-    ensures { result ≡ line_number line }
-{
-    match line {
-        Line::Words => 1,
-        Line::Tokens => 2,
-        Line::Cuts => 3,
+impl Held {
+    // Nothing has been read, and each buffer is all zeros.
+    pub fn new() -> Held
+        ensures { result ≡ held start (replicate 2564 0) (replicate 1024 0) (replicate 64 0) }
+    {
+        Held {
+            state: State::start(),
+            words: [0; 2564],
+            tokens: [0; 1024],
+            cuts: [0; 64],
+        }
+    }
+
+    // One more number of the line, in the line's buffer; where the line is full nothing changes. Whether it had room.
+    fn keep(&mut self, value: u16) -> bool
+        ensures room { result ≡ not (full self.old.state) }
+        ensures after { self.new ≡ pick (full self.old.state) self.old (kept self.old value) }
+    {
+        match self.state.line {
+            Line::Words => put(&mut self.words, &mut self.state.counts.words, value),
+            Line::Tokens => put(&mut self.tokens, &mut self.state.counts.tokens, value),
+            Line::Cuts => put(&mut self.cuts, &mut self.state.counts.cuts, value),
+        }
+    }
+
+    // A number ends at a byte that is no digit.
+    fn end(&mut self, value: u16, byte: u8)
+        ensures { self.new ≡ ended self.old value byte }
+    {
+        if self.keep(value) {
+            self.state = self.state.followed(byte);
+        } else {
+            self.state = self.state.in_phase(Phase::Bad);
+        }
+    }
+
+    // One byte.
+    #[tactic(auto, unfolding(crate::specs::Feeding::fed))]
+    pub fn feed(&mut self, byte: u8)
+        ensures { self.new ≡ fed self.old byte }
+    {
+        let state = self.state;
+        match state.phase {
+            Phase::Fresh => self.state = state.opened(byte),
+            Phase::Number(value) if byte.is_ascii_digit() => self.state = state.longer(value, byte),
+            Phase::Number(value) => self.end(value, byte),
+            Phase::Space => self.state = state.started(byte),
+            Phase::Bad | Phase::Done => {}
+        }
+    }
+
+    // The bytes of a piece.
+    pub fn feed_piece(&mut self, piece: &[u8])
+        ensures { self.new ≡ fed_all self.old piece.now }
+    {
+        for byte in piece {
+            self.feed(*byte);
+        }
+    }
+
+    // A whole text in one piece, whatever has been read before.
+    pub fn read_text(&mut self, text: &[u8]) -> Result<Counts, Line>
+        ensures value { result ≡ answer_for (read_text text.now) }
+        ensures text_held { self.new ≡ after self.old.words self.old.tokens self.old.cuts text.now }
+    {
+        self.state = State::start();
+        self.feed_piece(text);
+        self.state.finish()
     }
 }
 
-// What the text says so far.
-pub fn answer(state: State) -> TextAnswer
-    ensures { result ≡ answer_of state }
+// One more number in a line's buffer, and in the count of its numbers; where the buffer is full nothing changes. Whether it had room.
+fn put(line: &mut [u16], count: &mut usize, value: u16) -> bool
+    ensures { MatchBool result ((count.old < length line.old) × (line.new ≡ slice_set line.old count.old value) × (count.new ≡ count.old + 1)) ((length line.old ≤ count.old) × (line.new ≡ line.old) × (count.new ≡ count.old)) }
 {
-    let phase = state.phase;
-    let line = state.line;
-    match phase {
-        Phase::Fresh => TextAnswer::More,
-        Phase::Number(_) => TextAnswer::More,
-        Phase::Space => TextAnswer::More,
-        Phase::Bad => TextAnswer::BadLine(line_number(line)),
-        Phase::Done => TextAnswer::Lines(state.words, state.tokens, state.cuts),
+    let fits = *count < line.len();
+    if fits {
+        line[*count] = value;
+        *count += 1;
     }
-}
-
-// What it says where no more comes: a line without its line feed is missing.
-pub fn finish(state: State) -> TextAnswer
-    ensures { result ≡ finish_of state }
-{
-    let line = state.line;
-    let said = answer(state);
-    match said {
-        TextAnswer::More => TextAnswer::BadLine(line_number(line)),
-        TextAnswer::BadLine(_) => said,
-        TextAnswer::Lines(_, _, _) => said,
-    }
-}
-
-// A whole text in one piece.
-pub fn read_text(
-    text: &[u8],
-    words: &mut [u16; 2564],
-    tokens: &mut [u16; 1024],
-    cuts: &mut [u16; 64],
-) -> TextAnswer
-    ensures value { result ≡ answer_for (read_text text.now) }
-    ensures text_held { TextHeld words.old tokens.old cuts.old text.now words.new tokens.new cuts.new }
-{
-    finish(feed_piece(start(), text, words, tokens, cuts))
+    fits
 }

@@ -1,4 +1,5 @@
-// A writer with a buffer of its own, which goes out when it is full and by `flush`.
+// A writer with a buffer of its own, which goes out when it is full and by `flush`. The buffer has its length beside it since `io::BufWriter`
+// would allocate, and the program has no heap.
 ghost use Rattle.std.specs.Prelude.{◌≤◌};
 
 use std::io;

@@ -15,6 +15,40 @@ use input::Input;
 use shown::Output;
 use std::io;
 use std::io::{Read, Write};
+use tables::Side;
+
+// At most so many cases are run, and so many calls of a schedule.
+pub(crate) const MOST: u32 = 1000000;
+
+// What a case asks.
+#[derive(Clone, Copy)]
+enum Kind {
+    Load { whole: bool },
+    Set(Side),
+    Row { aloud: bool },
+    Grammar,
+    Entries,
+    Reading,
+    Writing,
+}
+
+// A kind by its number; each number after 9 stands for kind 9 too.
+impl From<u16> for Kind {
+    fn from(number: u16) -> Kind {
+        match number {
+            0 => Kind::Load { whole: false },
+            1 => Kind::Load { whole: true },
+            2 => Kind::Set(Side::Left),
+            3 => Kind::Set(Side::Right),
+            4 => Kind::Row { aloud: true },
+            5 => Kind::Row { aloud: false },
+            6 => Kind::Grammar,
+            7 => Kind::Entries,
+            8 => Kind::Reading,
+            _ => Kind::Writing,
+        }
+    }
+}
 
 // What the cases read and where their answers go.
 #[derive(Drop)]
@@ -23,37 +57,27 @@ pub struct Streams<R, W> {
     output: Output<W>,
 }
 
-// A case that stands under no grammar.
-fn other_case<R: Read, W: Write>(streams: &mut Streams<R, W>, kind: u32) {
-    if kind == 7 {
-        rows::entries_case(streams);
-    } else if kind == 8 {
-        texts::reading_case(streams);
-    } else {
-        texts::writing_case(streams);
-    }
-}
-
-// The cases one after the other, until the input is at its end.
-fn all_cases<R: Read, W: Write>(streams: &mut Streams<R, W>) {
-    let mut words = [0u16; 4096];
-    let mut matrix = [0u8; 4096];
-    let mut count = 0;
-    let mut left: u32 = 1000000;
-    while 0 < left {
-        let kind = input::next_word(&mut streams.input);
-        if kind == 65536 {
-            return;
-        }
-        left -= 1;
-        if kind == 6 {
-            count = tables::new_grammar(streams, &mut words, &mut matrix);
-        } else if kind < 4 {
-            tables::table_case(streams, kind, &words[..count]);
-        } else if kind < 6 {
-            rows::row_case(streams, kind == 4, &mut words[..count], &mut matrix);
-        } else {
-            other_case(streams, kind);
+impl<R: Read, W: Write> Streams<R, W> {
+    // The cases one after the other, until the input is at its end. The words, of which there are `count`, and the matrix are those of the
+    // grammar that was read last. The count stands beside the buffer since a `Vec` would allocate, and a slice of it that goes from one case to
+    // the next is a borrow round a loop, which gets no generated proof.
+    fn run_cases(&mut self) {
+        let mut words = [0u16; 4096];
+        let mut matrix = [0u8; 4096];
+        let mut count = 0;
+        for _ in 0..MOST {
+            let Some(number) = self.input.next_word() else {
+                return;
+            };
+            match Kind::from(number) {
+                Kind::Load { whole } => self.load_case(&words[..count], whole),
+                Kind::Set(side) => self.set_case(&words[..count], side),
+                Kind::Row { aloud } => self.row_case(&mut words[..count], &mut matrix, aloud),
+                Kind::Grammar => count = self.grammar_case(&mut words, &mut matrix),
+                Kind::Entries => self.entries_case(),
+                Kind::Reading => self.reading_case(),
+                Kind::Writing => self.writing_case(),
+            }
         }
     }
 }
@@ -63,7 +87,7 @@ fn main(rt: HostRuntime) -> io::Result<()> {
         input: Input::new(rt.stdin()),
         output: Output::new(rt.stdout()),
     };
-    all_cases(&mut streams);
+    streams.run_cases();
     let Streams { input, output } = streams;
     let written = output.finish();
     input.finish()?;

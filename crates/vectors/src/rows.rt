@@ -5,281 +5,280 @@
 //     10, 11, 12 a word of the area, a byte of the matrix, a word of the grammar is changed: its place and the new value
 //     13 the area's words are shown                 14 the first words of the report's run are shown
 // 0 ends the schedule. A call answers its number, value and moves, and the sum of what it was lent to write.
+ghost use Rattle.std.specs.Prelude.{◌≡◌, ◌≤◌, length};
+
 use crate::input::Input;
-use crate::shown::{Output, Told};
-use crate::{Streams, input, shown};
-use refusals::Answer;
+use crate::shown::{Output, Told, folded, sum_of};
+use crate::{MOST, Streams};
 use std::io::{Read, Write};
+
+// What a change changes: a word of the area, a byte of the matrix or a word of the grammar.
+#[derive(Clone, Copy)]
+enum Changed {
+    Area,
+    Matrix,
+    Words,
+}
+
+// A call of a schedule, with the chunk or the number of chunks that it is about.
+#[derive(Clone, Copy)]
+enum Call {
+    Start,
+    Step(usize),
+    Run(usize),
+    Join(usize),
+    ReadRow(usize),
+    Report,
+    Parse,
+    Keep,
+    PutBack,
+    Change(Changed),
+    ShowArea,
+    ShowRun,
+}
+
+impl Call {
+    // The call of a word, or none where it ends the schedule; 15 stands for 14 too.
+    fn of(word: u16) -> Option<Call> {
+        let chunk = usize::from(word / 16);
+        match word % 16 {
+            0 => None,
+            1 => Some(Call::Start),
+            2 => Some(Call::Step(chunk)),
+            3 => Some(Call::Run(chunk)),
+            4 => Some(Call::Join(chunk)),
+            5 => Some(Call::ReadRow(chunk)),
+            6 => Some(Call::Report),
+            7 => Some(Call::Parse),
+            8 => Some(Call::Keep),
+            9 => Some(Call::PutBack),
+            10 => Some(Call::Change(Changed::Area)),
+            11 => Some(Call::Change(Changed::Matrix)),
+            12 => Some(Call::Change(Changed::Words)),
+            13 => Some(Call::ShowArea),
+            _ => Some(Call::ShowRun),
+        }
+    }
+}
 
 // A run's budget; 65,535 stands for the greatest.
 fn next_budget<R: Read>(input: &mut Input<R>) -> u32 {
-    let word = input::next_word(input);
-    if word < 65535 {
-        return word;
-    }
-    4294967295
-}
-
-// The schedule of the program `rows`: each chunk is run until it rests, then chunk 0 is joined rightwards, and run until it rests
-// after each join.
-fn read_row(words: &[u16], matrix: &[u8], area: &mut [u16], chunks: usize) {
-    let mut c = 0;
-    while c < chunks {
-        reader::run(words, matrix, area, c, 4294967295);
-        c += 1;
-    }
-    let mut joined = 1;
-    while joined < chunks {
-        reader::join(words, matrix, area, 0);
-        reader::run(words, matrix, area, 0, 4294967295);
-        joined += 1;
+    match input.next_word() {
+        None | Some(65535) => u32::MAX,
+        Some(budget) => u32::from(budget),
     }
 }
 
-// A call that is lent the area to write.
-fn area_call<R: Read>(
-    input: &mut Input<R>,
-    call: u32,
-    chunk: usize,
-    words: &[u16],
-    matrix: &[u8],
-    tokens: &[u16],
-    cuts: &[u16],
-    area: &mut [u16],
-) -> Told {
-    if call == 1 {
-        return shown::told_answer(start::start(words, matrix, tokens, cuts, area));
-    }
-    if call == 2 {
-        return shown::told_answer(reader::step(words, matrix, area, chunk));
-    }
-    if call == 3 {
-        return shown::told_run(reader::run(words, matrix, area, chunk, next_budget(input)));
-    }
-    if call == 4 {
-        return shown::told_answer(reader::join(words, matrix, area, chunk));
-    }
-    read_row(words, matrix, area, chunk);
-    shown::told_answer(Answer::Done)
+// The first words of a run, so many of them: a function of its own, since the proof that a row's `area` and `kept` are of one length reads
+// their lengths off its clause; where both stood as `&mut run[..size]`, the search stopped at its limit.
+fn first_words(run: &mut [u16], size: usize) -> &mut [u16]
+    requires { size ≤ length run.old }
+    ensures { length result.now ≡ size }
+{
+    &mut run[..size]
 }
 
-// The report, or the one-call parse, into a run of nines; with it the sum of the run, for the parse of area and run.
-fn report_call<W: Write>(
-    output: &mut Output<W>,
-    before: u64,
-    call: u32,
-    words: &[u16],
-    matrix: &[u8],
-    tokens: &[u16],
-    area: &mut [u16],
-    out: &mut [u16],
+// The beginning of a report's run, as long as the next word says, in nines; none where the run has no such beginning.
+fn clear_run<'a, R: Read>(input: &mut Input<R>, out: &'a mut [u16]) -> Option<&'a mut [u16]> {
+    let room = input.next_number();
+    let run = out.get_mut(..room)?;
+    run.fill(9);
+    Some(run)
+}
+
+// Puts a value at a place of a run, if it has that place.
+fn put<T: Copy>(run: &mut [T], at: usize, value: T) {
+    if let Some(place) = run.get_mut(at) {
+        *place = value;
+    }
+}
+
+// A row under a grammar: what its calls are lent, the area as it was kept, which is as long, whether each answer is shown, and the sum of all
+// so far.
+#[derive(Drop)]
+struct Row<'a> {
+    words: &'a mut [u16],
+    matrix: &'a mut [u8],
+    tokens: &'a [u16],
+    cuts: &'a [u16],
+    area: &'a mut [u16],
+    kept: &'a mut [u16],
+    out: &'a mut [u16],
     aloud: bool,
-) -> u64 {
-    input::fill_words(out, 9);
-    if call == 6 {
-        let it = shown::told_report(report::report(words, matrix, area, out));
-        return shown::tell(output, before, it, shown::sum_of_words(out), aloud);
-    }
-    let it = shown::told_report(parse::parse(words, tokens, area, out));
-    let sum = shown::folded(shown::sum_of_words(area), shown::sum_of_words(out));
-    shown::tell(output, before, it, sum, aloud)
+    sum: u64,
+    ghost kept_whole: { length area.now ≡ length kept.now },
 }
 
-// A call that is lent a report's run to write.
-fn out_call<R: Read, W: Write>(
-    streams: &mut Streams<R, W>,
-    before: u64,
-    call: u32,
-    words: &[u16],
-    matrix: &[u8],
-    tokens: &[u16],
-    area: &mut [u16],
-    out: &mut [u16],
-    aloud: bool,
-) -> u64 {
-    let room = input::next_word(&mut streams.input) as usize;
-    if out.len() < room {
-        return before;
+impl Row<'_> {
+    // An answer and a sum of what was lent, as one more of the sums before; on a line of their own where that is asked.
+    fn tell<W: Write>(&mut self, output: &mut Output<W>, told: Told, sum: u64) {
+        if self.aloud {
+            output.show(told);
+            output.show(sum);
+            output.end_line();
+        }
+        let number = u64::from(told.number);
+        let more = u64::from(told.more);
+        self.sum = [number, told.value, more, sum]
+            .iter()
+            .fold(self.sum, |sum, one| folded(sum, *one));
     }
-    report_call(
-        &mut streams.output,
-        before,
-        call,
-        words,
-        matrix,
-        tokens,
-        area,
-        &mut out[..room],
-        aloud,
-    )
+
+    // The answer of a call that was lent the area to write.
+    fn tell_area<W: Write>(&mut self, output: &mut Output<W>, answer: impl Into<Told>) {
+        let sum = sum_of(self.area);
+        self.tell(output, answer.into(), sum);
+    }
+
+    // The schedule of the program `rows`: each chunk is run until it rests, then chunk 0 is joined rightwards, and run until it rests
+    // after each join.
+    fn read_row(&mut self, chunks: usize) {
+        for chunk in 0..chunks {
+            let _ = reader::run(self.words, self.matrix, self.area, chunk, u32::MAX);
+        }
+        for _ in 1..chunks {
+            let _ = reader::join(self.words, self.matrix, self.area, 0);
+            let _ = reader::run(self.words, self.matrix, self.area, 0, u32::MAX);
+        }
+    }
+
+    // The report into a run of nines.
+    fn report<R: Read, W: Write>(&mut self, streams: &mut Streams<R, W>) {
+        let Some(run) = clear_run(&mut streams.input, self.out) else {
+            return;
+        };
+        let told = Told::from(report::report(self.words, self.matrix, self.area, run));
+        let sum = sum_of(run);
+        self.tell(&mut streams.output, told, sum);
+    }
+
+    // The one-call parse into a run of nines.
+    fn parse<R: Read, W: Write>(&mut self, streams: &mut Streams<R, W>) {
+        let Some(run) = clear_run(&mut streams.input, self.out) else {
+            return;
+        };
+        let told = Told::from(parse::parse(self.words, self.tokens, self.area, run));
+        let sum = folded(sum_of(self.area), sum_of(run));
+        self.tell(&mut streams.output, told, sum);
+    }
+
+    // One word or byte changed.
+    fn change<R: Read>(&mut self, input: &mut Input<R>, changed: Changed) {
+        let at = input.next_number();
+        let value = input.next_value();
+        match changed {
+            Changed::Area => put(self.area, at, value),
+            Changed::Matrix => put(self.matrix, at, (value % 256) as u8),
+            Changed::Words => put(self.words, at, value),
+        }
+    }
+
+    // The first words of the report's run.
+    fn show_run<R: Read, W: Write>(&self, streams: &mut Streams<R, W>) {
+        let count = streams.input.next_number();
+        if let Some(run) = self.out.get(..count) {
+            streams.output.show_words(run);
+        }
+    }
+
+    fn call<R: Read, W: Write>(&mut self, streams: &mut Streams<R, W>, call: Call) {
+        let Streams { input, output } = streams;
+        match call {
+            Call::Start => {
+                let answer = start::start(
+                    self.words,
+                    self.matrix,
+                    self.tokens,
+                    self.cuts,
+                    self.area,
+                );
+                self.tell_area(output, answer);
+            }
+            Call::Step(chunk) => {
+                let answer = reader::step(self.words, self.matrix, self.area, chunk);
+                self.tell_area(output, answer);
+            }
+            Call::Run(chunk) => {
+                let budget = next_budget(input);
+                let answer = reader::run(self.words, self.matrix, self.area, chunk, budget);
+                self.tell_area(output, answer);
+            }
+            Call::Join(chunk) => {
+                let answer = reader::join(self.words, self.matrix, self.area, chunk);
+                self.tell_area(output, answer);
+            }
+            Call::ReadRow(chunks) => {
+                self.read_row(chunks);
+                self.tell_area(output, Told::default());
+            }
+            Call::Report => self.report(streams),
+            Call::Parse => self.parse(streams),
+            Call::Keep => self.kept.copy_from_slice(self.area),
+            Call::PutBack => self.area.copy_from_slice(self.kept),
+            Call::Change(changed) => self.change(input, changed),
+            Call::ShowArea => output.show_words(self.area),
+            Call::ShowRun => self.show_run(streams),
+        }
+    }
+
+    // A schedule to its end.
+    fn schedule<R: Read, W: Write>(&mut self, streams: &mut Streams<R, W>) {
+        for _ in 0..MOST {
+            let Some(call) = streams.input.next_word().and_then(Call::of) else {
+                return;
+            };
+            self.call(streams, call);
+        }
+    }
 }
 
-// The area kept, or put back.
-fn keep(call: u32, area: &mut [u16], kept: &mut [u16; 115100]) {
-    if call == 8 {
-        input::copy_words(area, kept);
-    } else {
-        input::copy_words(kept, area);
-    }
-}
-
-// One word or byte changed.
-fn change<R: Read>(
-    input: &mut Input<R>,
-    call: u32,
-    words: &mut [u16],
-    matrix: &mut [u8; 4096],
-    area: &mut [u16],
-) {
-    let at = input::next_word(input) as usize;
-    let value = input::next_value(input);
-    if call == 10 {
-        input::change_word(area, at, value);
-    } else if call == 11 {
-        input::change_byte(matrix, at, value);
-    } else {
-        input::change_word(words, at, value);
-    }
-}
-
-// The words of the area, or the first ones of the report's run.
-fn show_row<R: Read, W: Write>(streams: &mut Streams<R, W>, call: u32, area: &[u16], out: &[u16]) {
-    if call == 13 {
-        shown::show_words(&mut streams.output, area);
-        return;
-    }
-    let count = input::next_word(&mut streams.input) as usize;
-    if count <= out.len() {
-        shown::show_words(&mut streams.output, &out[..count]);
-    }
-}
-
-// One of the calls 1 to 7, and the sum of all the answers so far.
-fn one_call<R: Read, W: Write>(
-    streams: &mut Streams<R, W>,
-    before: u64,
-    call: u32,
-    chunk: usize,
-    words: &[u16],
-    matrix: &[u8],
-    tokens: &[u16],
-    cuts: &[u16],
-    area: &mut [u16],
-    out: &mut [u16],
-    aloud: bool,
-) -> u64 {
-    if call < 6 {
-        let it = area_call(
-            &mut streams.input,
-            call,
-            chunk,
+impl<R: Read, W: Write> Streams<R, W> {
+    // Kinds 4 and 5: tokens, cuts, how many words the area has, and a schedule, whose answers kind 4 shows one by one. The area's words
+    // are nines at first.
+    pub(crate) fn row_case(&mut self, words: &mut [u16], matrix: &mut [u8], aloud: bool) {
+        let mut tokens = [0u16; 16400];
+        let mut cuts = [0u16; 80];
+        let mut area = [9u16; 115100];
+        let mut kept = [0u16; 115100];
+        let mut out = [0u16; 49200];
+        let tokens = self.input.read_run(&mut tokens);
+        let cuts = self.input.read_run(&mut cuts);
+        let room = self.input.next_wide() as usize;
+        if area.len() < room {
+            return;
+        }
+        let mut row = Row {
             words,
             matrix,
             tokens,
             cuts,
-            area,
-        );
-        return shown::tell(
-            &mut streams.output,
-            before,
-            it,
-            shown::sum_of_words(area),
+            area: first_words(&mut area, room),
+            kept: first_words(&mut kept, room),
+            out: &mut out,
             aloud,
-        );
+            sum: 0,
+        };
+        row.schedule(self);
+        self.output.show(row.sum);
+        self.output.end_line();
     }
-    out_call(
-        streams, before, call, words, matrix, tokens, area, out, aloud,
-    )
-}
 
-// A schedule to its end, and the sum of all its answers.
-fn schedule<R: Read, W: Write>(
-    streams: &mut Streams<R, W>,
-    words: &mut [u16],
-    matrix: &mut [u8; 4096],
-    tokens: &[u16],
-    cuts: &[u16],
-    area: &mut [u16],
-    kept: &mut [u16; 115100],
-    out: &mut [u16],
-    aloud: bool,
-) -> u64 {
-    let mut sum = 0;
-    let mut left: u32 = 1000000;
-    while 0 < left {
-        let word = input::next_word(&mut streams.input);
-        let call = word % 16;
-        if call == 0 {
-            return sum;
-        }
-        left -= 1;
-        if call < 8 {
-            let chunk = (word / 16) as usize;
-            sum = one_call(
-                streams, sum, call, chunk, words, matrix, tokens, cuts, area, out, aloud,
-            );
-        } else if call < 10 {
-            keep(call, area, kept);
-        } else if call < 13 {
-            change(&mut streams.input, call, words, matrix, area);
-        } else {
-            show_row(streams, call, area, out);
+    // The tokens of so many entries of a report's run: how many, and which.
+    fn show_entries(&mut self, report: &[u16], tokens: &[u16]) {
+        for _ in 0..self.input.next_number() {
+            let entry = self.input.next_wide() as usize;
+            let part = report::entry_tokens(report, entry, tokens);
+            self.output.show(part.len());
+            self.output.show_words(part);
         }
     }
-    sum
-}
 
-// Kinds 4 and 5: tokens, cuts, how many words the area has, and a schedule, whose answers kind 4 shows one by one. The area's words
-// are nines at first.
-pub(crate) fn row_case<R: Read, W: Write>(
-    streams: &mut Streams<R, W>,
-    aloud: bool,
-    words: &mut [u16],
-    matrix: &mut [u8; 4096],
-) {
-    let mut tokens = [0u16; 16400];
-    let mut cuts = [0u16; 80];
-    let mut area = [9u16; 115100];
-    let mut kept = [0u16; 115100];
-    let mut out = [0u16; 49200];
-    let n = input::read_run(&mut streams.input, &mut tokens);
-    let chunks = input::read_run(&mut streams.input, &mut cuts);
-    let room = input::next_wide(&mut streams.input) as usize;
-    if 115100 < room {
-        return;
+    // Kind 7: tokens, a report's run, and the entries whose tokens are asked.
+    pub(crate) fn entries_case(&mut self) {
+        let mut tokens = [0u16; 16400];
+        let mut report = [0u16; 49200];
+        let tokens = self.input.read_run(&mut tokens);
+        let report = self.input.read_run(&mut report);
+        self.show_entries(report, tokens);
     }
-    let sum = schedule(
-        streams,
-        words,
-        matrix,
-        &tokens[..n],
-        &cuts[..chunks],
-        &mut area[..room],
-        &mut kept,
-        &mut out,
-        aloud,
-    );
-    shown::show(&mut streams.output, sum);
-    shown::line_end(&mut streams.output);
-}
-
-// The tokens of so many entries of a report's run: how many, and which.
-fn show_entries<R: Read, W: Write>(streams: &mut Streams<R, W>, report: &[u16], tokens: &[u16]) {
-    let mut left = input::next_word(&mut streams.input);
-    while 0 < left {
-        let entry = input::next_wide(&mut streams.input) as usize;
-        let part = report::entry_tokens(report, entry, tokens);
-        shown::show(&mut streams.output, part.len() as u64);
-        shown::show_words(&mut streams.output, part);
-        left -= 1;
-    }
-}
-
-// Kind 7: tokens, a report's run, and the entries whose tokens are asked.
-pub(crate) fn entries_case<R: Read, W: Write>(streams: &mut Streams<R, W>) {
-    let mut tokens = [0u16; 16400];
-    let mut report = [0u16; 49200];
-    let n = input::read_run(&mut streams.input, &mut tokens);
-    let size = input::read_run(&mut streams.input, &mut report);
-    show_entries(streams, &report[..size], &tokens[..n]);
 }

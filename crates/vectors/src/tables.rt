@@ -1,53 +1,58 @@
 // Cases of load and of the sets.
 ghost use Rattle.std.specs.Prelude.{◌≤◌, length};
 
-use crate::{Streams, input, shown};
+use crate::Streams;
+use crate::shown::{Told, sum_of};
 use std::io::{Read, Write};
 
-// Kind 6: a grammar's words, and their matrix in 4,096 bytes that were 0: the answer of load and the bytes' sum. How many words.
-pub(crate) fn new_grammar<R: Read, W: Write>(
-    streams: &mut Streams<R, W>,
-    words: &mut [u16],
-    matrix: &mut [u8; 4096],
-) -> usize
-    ensures { result ≤ length words.old }
-{
-    let count = input::read_run(&mut streams.input, words);
-    *matrix = [0u8; 4096];
-    shown::show_answer(&mut streams.output, table::load(&words[..count], matrix));
-    shown::show(&mut streams.output, shown::sum_of_bytes(matrix));
-    shown::line_end(&mut streams.output);
-    count
+// Which of its sets is asked of a nonterminal.
+#[derive(Clone, Copy)]
+pub(crate) enum Side {
+    Left,
+    Right,
 }
 
-// Kinds 0 and 1: load into the first `room` bytes of a run of sevens; the answer, the run's sum, and for kind 1 the bytes not 0.
-fn load_case<R: Read, W: Write>(
-    streams: &mut Streams<R, W>,
-    words: &[u16],
-    run: &mut [u8],
-    room: usize,
-    whole: bool,
-) {
-    if run.len() < room {
-        return;
+impl<R: Read, W: Write> Streams<R, W> {
+    // Kind 6: a grammar's words, and their matrix in 4,096 bytes that were 0: the answer of load and the bytes' sum. How many words.
+    pub(crate) fn grammar_case(&mut self, words: &mut [u16], matrix: &mut [u8; 4096]) -> usize
+        ensures { result ≤ length words.old }
+    {
+        let words = self.input.read_run(words);
+        matrix.fill(0);
+        let told = Told::from(table::load(words, matrix));
+        self.output.show(told.number);
+        self.output.show(told.value);
+        self.output.show(sum_of(matrix));
+        self.output.end_line();
+        words.len()
     }
-    shown::show_answer(&mut streams.output, table::load(words, &mut run[..room]));
-    shown::show(&mut streams.output, shown::sum_of_bytes(run));
-    if whole {
-        shown::show_bytes(&mut streams.output, &run[..room]);
-    }
-    shown::line_end(&mut streams.output);
-}
 
-// A case of kinds 0 to 3; kinds 2 and 3 ask for a left set and for a right set.
-pub(crate) fn table_case<R: Read, W: Write>(streams: &mut Streams<R, W>, kind: u32, words: &[u16]) {
-    let asked = input::next_word(&mut streams.input);
-    if kind < 2 {
+    // Kinds 0 and 1: load into the first bytes, as many as the next word says, of a run of sevens; the answer, the run's sum, and for kind 1
+    // the bytes not 0.
+    pub(crate) fn load_case(&mut self, words: &[u16], whole: bool) {
         let mut run = [7u8; 5000];
-        load_case(streams, words, &mut run, asked as usize, kind == 1);
-    } else if kind == 2 {
-        shown::show_set(&mut streams.output, table::left_set(words, asked));
-    } else {
-        shown::show_set(&mut streams.output, table::right_set(words, asked));
+        let room = self.input.next_number();
+        if run.len() < room {
+            return;
+        }
+        let told = Told::from(table::load(words, &mut run[..room]));
+        self.output.show(told.number);
+        self.output.show(told.value);
+        self.output.show(sum_of(&run));
+        if whole {
+            self.output.show_bytes(&run[..room]);
+        }
+        self.output.end_line();
+    }
+
+    // Kinds 2 and 3: a left set or a right set, on a line of its own.
+    pub(crate) fn set_case(&mut self, words: &[u16], side: Side) {
+        let nonterminal = self.input.next_number() as u32;
+        let answer = match side {
+            Side::Left => table::left_set(words, nonterminal),
+            Side::Right => table::right_set(words, nonterminal),
+        };
+        self.output.show(Told::from(answer));
+        self.output.end_line();
     }
 }

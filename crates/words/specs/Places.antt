@@ -2,15 +2,20 @@
 -- Document 01, "The grammar words" and 3 SYMBOL: "a body word is no nonterminal (left) or no symbol".
 -- Rests on Laid and on language's CheckSymbols.
 --
--- Main definition: Lies. Main statements: lies-first, lies-on, lies-next, asked_here, asked-before.
-use Rattle.std.specs.Prelude.{◌≡◌, refl, true, false, List, ℕ, suc, ◌+◌, ◌≤◌, ◌<◌, leb, length}
+-- Main definitions: Lies, wrong_word. Main statements: lies-first, lies-on, lies-next, asked_here, asked-word, asked-before.
+use Rattle.std.specs.Prelude.{◌≡◌, refl, Bool, true, false, List, ℕ, suc, ◌+◌, ◌≤◌, ◌<◌, leb, eqb, length}
 use Rattle.std.proofs.Math.Bool.{or-false}
-use Rattle.std.proofs.Common.{arith, add-one}
-use Rattle.std.proofs.Math.Decide.{dec_lt}
+use Rattle.std.proofs.Common.{sym, ◌∙◌, arith, add-one}
+use Rattle.std.proofs.Math.Decide.{dec_lt, ℕ_discrete}
 use Rattle.laws.specs.Tests.{eq-eqb, ne_eqb, lt-ltb, le-ltb, any_below-iff, same_test, false-unless, not-both}
 use Rattle.language.specs.Words.{word, count_n, count_r, entry, body_end}
 use Rattle.language.specs.CheckSymbols.{no_symbol, wrong_in, bad_symbol}
 use Rattle.words.specs.Laid.{Laid, ends_next, ends_last, rises}
+
+-- the word w, as a left side or in a right side, is a wrong one
+abbrev pub wrong_word : List ℕ → Bool → ℕ → Bool
+wrong_word words true w = leb (count_n words) w
+wrong_word words false w = no_symbol words w
 
 -- place p lies in the body of rule r
 pub record Lies (words : List ℕ) (p r : ℕ) : Type 0 where
@@ -70,6 +75,14 @@ module _ (words : List ℕ) (l : Laid words) where
 
       to : bad_symbol words p ≡ true → wrong_in words p r ≡ true
       to e = let k = (any_below-iff (wrong_in words p) (count_r words)).0 e in other k.0 k.1 (dec_lt k.0 r) (dec_lt r k.0) k.2
+
+  -- and what is asked there
+  pub asked-word : (p r : ℕ) → Lies words p r → bad_symbol words p ≡ wrong_word words (eqb p (entry words r)) (word words p)
+  asked-word p r h = asked_here p r h ∙ go (ℕ_discrete p (entry words r))
+    where
+      go : Dec (p ≡ entry words r) → wrong_in words p r ≡ wrong_word words (eqb p (entry words r)) (word words p)
+      go (yes e) = wrong-left words p r (sym e) ∙ rw (eq-eqb p (entry words r) e)
+      go (no n) = wrong-right words p r (omega (arith, h.starts)) h.ends ∙ rw (ne_eqb p (entry words r) n)
 
   -- a place before the bodies is not asked
   pub asked-before : (p : ℕ) → p < 4 + count_r words → bad_symbol words p ≡ false

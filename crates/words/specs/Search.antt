@@ -5,19 +5,18 @@
 -- Main definition, of laws: Clear.
 -- Main statements: found_at, found_nowhere (what is answered where the search finds that), fails-below, clear-below (a search that answers yes
 -- or no).
-use Rattle.std.specs.Prelude.{◌≡◌, Bool, true, false, ℕ, ◌≤◌, ◌<◌}
+use Rattle.std.specs.Prelude.{◌≡◌, Bool, true, false, ℕ, ◌≤◌, ◌<◌, Err}
 use Rattle.std.proofs.Common.{sym, ap, arith}
 use Rattle.std.proofs.Math.Option.{Option}
 use Rattle.laws.specs.Least.{first_below, first-at, first-nowhere}
-pub use Rattle.laws.specs.Least.{Clear, clear_none, clear-more}
+pub use Rattle.laws.specs.Least.{Clear, clear-more}
 use Rattle.laws.specs.Tests.{not-both, false-unless, any_below, any_below-iff}
 use Rattle.refusals.specs.declared.Refusal.{Refusal}
-use Rattle.refusals.specs.declared.Answer.{Answer}
-use Rattle.refusals.specs.declared.Answer.TheVariants.{Refused}
+use Rattle.refusals.specs.Answers.{Answer}
 use Rattle.language.specs.Stages.{refused_by}
 
 module _ (fails : ℕ → Bool) where
-  pub found_at : (refusal : ℕ → Refusal) (later : Answer) (n i : ℕ) → i < n → Clear fails i → fails i ≡ true → Refused (refusal i) ≡ refused_by refusal (first_below fails n) later
+  pub found_at : (refusal : ℕ → Refusal) (later : Answer) (n i : ℕ) → i < n → Clear fails i → fails i ≡ true → Err (refusal i) ≡ refused_by refusal (first_below fails n) later
   found_at refusal later n i h clear e = ap (λ (found : Option ℕ). refused_by refusal found later) (sym (first-at fails n i h clear e))
 
   pub found_nowhere : (refusal : ℕ → Refusal) (later : Answer) (n i : ℕ) → n ≤ i → Clear fails i → later ≡ refused_by refusal (first_below fails n) later

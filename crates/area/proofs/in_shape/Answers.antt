@@ -1,5 +1,5 @@
 -- Words that pass 1 to 3 have a head, with T at most 63 and N at most 64; the walk reads within sized words only.
-use Rattle.std.proofs.Common.{◌≡◌, ℕ, ◌≤◌, Bool, true, ◌&&◌, List, length, ap, ◌∙◌, arith}
+use Rattle.std.proofs.Common.{◌≡◌, refl, sym, ℕ, ◌≤◌, Bool, true, ◌&&◌, List, length, ap, ◌∙◌, arith}
 use Rattle.std.proofs.lemmas.Bool.{and_parts}
 use Rattle.language.specs.Words.{count_t, count_n}
 use Rattle.matrix.specs.GrammarShape.{grammar_in_shape}
@@ -22,28 +22,34 @@ returns-then-not-readable c =
     let a = c.args in
     shape-left a.words.now a.matrix.now a.area.now (rw (c.grammar_in_shape.ensures, c.sized.ensures) at c.if-not-readable.true)
 
-pub word-t-requires : goal.word-t-requires
-word-t-requires c =
+pub bounds-words-0 : goal.bounds-words-0
+bounds-words-0 c =
     let a = c.args in
     let read = readable a.words.now a.matrix.now a.area.now c.grammar_in_shape.ensures c.sized.ensures c.if-not-readable.false in
     omega (arith, head a.words.now a.matrix.now read.0)
 
-pub word-n-requires : goal.word-n-requires
-word-n-requires c =
+pub bounds-words-1 : goal.bounds-words-1
+bounds-words-1 c =
     let a = c.args in
     let read = readable a.words.now a.matrix.now a.area.now c.grammar_in_shape.ensures c.sized.ensures c.if-not-readable.false in
     omega (arith, head a.words.now a.matrix.now read.0)
 
-pub walk_table-requires : goal.walk_table-requires
-walk_table-requires c =
+pub invariant_of-lent : goal.invariant_of-lent
+invariant_of-lent c =
     let a = c.args in
     let read = readable a.words.now a.matrix.now a.area.now c.grammar_in_shape.ensures c.sized.ensures c.if-not-readable.false in
-    (rw c.word-n.ensures (head a.words.now a.matrix.now read.0).2, sized_of a.area.now read.1)
+    record { sized = sized_of a.area.now read.1; tokens_are = refl; few = (head a.words.now a.matrix.now read.0).2 }
 
-pub returns : goal.returns
-returns c =
+pub returns-in-Some : goal.returns-in-Some
+returns-in-Some c =
     let a = c.args in
     let read = readable a.words.now a.matrix.now a.area.now c.grammar_in_shape.ensures c.sized.ensures c.if-not-readable.false in
     c.walk_fits.ensures
-    ∙ ap (walk_fits a.area.now) (rw (c.word-t.ensures, c.word-n.ensures) at c.walk_table.ensures)
+    ∙ ap (walk_fits a.area.now) (sym c.in-Some.is ∙ c.walk_table.ensures)
     ∙ shape-kept a.words.now a.matrix.now a.area.now read.0 read.1
+
+pub returns-in-None : goal.returns-in-None
+returns-in-None c =
+    let a = c.args in
+    let read = readable a.words.now a.matrix.now a.area.now c.grammar_in_shape.ensures c.sized.ensures c.if-not-readable.false in
+    ap (walk_fits a.area.now) (sym c.in-None.is ∙ c.walk_table.ensures) ∙ shape-kept a.words.now a.matrix.now a.area.now read.0 read.1

@@ -7,7 +7,7 @@ use Rattle.rows.proofs.answer_input.Goals as goal
 
 pub returns : goal.returns
 returns g c =
-    let r = c.read_lines.new in
+    let r = c.read_lines.new.held in
     whole-written (g.R.Read.remaining c.args.input.now) c.in_ok-said.said _ _ _ r.words r.tokens r.cuts
     (λ (bytes : List ℕ). OnOk c.answer_text.result (Appends (g.W.Write.contents c.args.output.now) (g.W.Write.contents c.answer_text.new.output) bytes))
     (omega arith)

@@ -1,8 +1,7 @@
 -- A report's entries are in the run that was lent for them, and its lines are written where they have room.
-use Rattle.std.specs.Prelude.{◌≡◌, List, ℕ, ◌+◌, ◌≤◌, length, replicate}
+use Rattle.std.specs.Prelude.{◌≡◌, List, ℕ, ◌+◌, ◌≤◌, length, replicate, Ok, Err}
 use Rattle.std.proofs.Common.{arith}
-use Rattle.refusals.specs.declared.ReportAnswer.{ReportAnswer}
-use Rattle.refusals.specs.declared.ReportAnswer.TheVariants.{Report, Refused}
+use Rattle.refusals.specs.Answers.{ReportAnswer}
 use Rattle.rows.specs.Answers.{row_lines, row_room, row_text}
 use Rattle.rows.specs.Schedule.{Fits, row_answer, row_entries, fits-from}
 use Rattle.rows.proofs.answer_row.Goals as goal
@@ -14,8 +13,8 @@ write_row-requires g c =
     fits-from a.words.now a.tokens.now a.cuts.now _ _ _ (length read.new.entries) read.result read.ensures.value read.auto.entries
 
 row-has-room : (answer : ReportAnswer) (room : ℕ) → Fits answer room → room ≤ 3072 → row_room answer ≤ 18480
-row-has-room (Report count moves) room f h = omega arith
-row-has-room (Refused refusal) room f h = omega arith
+row-has-room (Ok report) room f h = omega arith
+row-has-room (Err refusal) room f h = omega arith
 
 row-is : (words tokens cuts : List ℕ) (answer : ReportAnswer) (run : List ℕ) → answer ≡ row_answer words tokens cuts (replicate 4096 0) (replicate 7501 0) 3072
     → run ≡ row_entries words tokens cuts (replicate 4096 0) (replicate 7501 0) (replicate 3072 0)

@@ -1,6 +1,7 @@
 -- 15 first, then 7 to 11, of which the searches give 9 and 10; where none is given the row's words are written, and else nothing.
-use Rattle.std.proofs.Common.{sym, ◌∙◌, length}
-use Rattle.start.specs.StartChecks.{some_word, broken-grammar, no_token, many-tokens, bad-token, bad-cut, small-room, enough-room, writable}
+use Rattle.std.proofs.Common.{sym, ap, ◌∙◌, length}
+use Rattle.language.specs.Words.{count_t, outside}
+use Rattle.start.specs.StartChecks.{found, first-position, some_word, broken-grammar, no_token, many-tokens, bad-token, bad-cut, small-room, enough-room, writable}
 use Rattle.start.proofs.StartLaw.{area_kept, area-started}
 use Rattle.start.proofs.start.Goals as goal
 
@@ -22,35 +23,35 @@ returns-then-n-gt16384 c =
 pub bounds-words-0 : goal.bounds-words-0
 bounds-words-0 c = some_word c.args.words.now c.args.matrix.now (sym c.grammar_in_shape.ensures ∙ c.if-not-grammar_in_shape.false)
 
-pub returns-then-token-n : goal.returns-then-token-n
-returns-then-token-n c =
+pub returns-in-Some : goal.returns-in-Some
+returns-in-Some c =
     let e = bad-token c.args.words.now c.args.matrix.now c.args.tokens.now c.args.cuts.now (length c.args.area.now) (sym c.grammar_in_shape.ensures ∙ c.if-not-grammar_in_shape.false) c.if-n-eq0.false c.if-n-gt16384.false
-    c.first_bad_token-token.result c.first_bad_token-token.ensures c.if-token-n.true in
+    c.first_bad_token.result (first-position (outside 1 (count_t c.args.words.now)) c.args.tokens.now ∙ ap found (sym c.first_bad_token.ensures)) _ c.in-Some.is in
     record { answers = e; leaves = area_kept c.args.words.now c.args.matrix.now c.args.tokens.now c.args.cuts.now c.args.area.now _ e }
 
-pub returns-then-cut-cuts : goal.returns-then-cut-cuts
-returns-then-cut-cuts c =
+pub returns-in-Some-first_bad_cut : goal.returns-in-Some-first_bad_cut
+returns-in-Some-first_bad_cut c =
     let e = bad-cut c.args.words.now c.args.matrix.now c.args.tokens.now c.args.cuts.now (length c.args.area.now) (sym c.grammar_in_shape.ensures ∙ c.if-not-grammar_in_shape.false) c.if-n-eq0.false c.if-n-gt16384.false
-    c.first_bad_token-token.result c.first_bad_token-token.ensures c.if-token-n.false
-    c.first_bad_cut-cut.result c.first_bad_cut-cut.ensures.0 c.if-cut-cuts.true in
+    c.first_bad_token.result (first-position (outside 1 (count_t c.args.words.now)) c.args.tokens.now ∙ ap found (sym c.first_bad_token.ensures)) c.in_default.is
+    c.first_bad_cut.result (sym c.first_bad_cut.ensures.bad) _ c.in-Some-first_bad_cut.is in
     record { answers = e; leaves = area_kept c.args.words.now c.args.matrix.now c.args.tokens.now c.args.cuts.now c.args.area.now _ e }
 
 pub returns-then-area-needed : goal.returns-then-area-needed
 returns-then-area-needed c =
     let e = small-room c.args.words.now c.args.matrix.now c.args.tokens.now c.args.cuts.now (length c.args.area.now) (sym c.grammar_in_shape.ensures ∙ c.if-not-grammar_in_shape.false) c.if-n-eq0.false c.if-n-gt16384.false
-    c.first_bad_token-token.result c.first_bad_token-token.ensures c.if-token-n.false
-    c.first_bad_cut-cut.result c.first_bad_cut-cut.ensures.0 c.if-cut-cuts.false c.if-area-needed.true in
+    c.first_bad_token.result (first-position (outside 1 (count_t c.args.words.now)) c.args.tokens.now ∙ ap found (sym c.first_bad_token.ensures)) c.in_default.is
+    c.first_bad_cut.result (sym c.first_bad_cut.ensures.bad) c.in_default-first_bad_cut.is c.if-area-needed.true in
     record { answers = e; leaves = area_kept c.args.words.now c.args.matrix.now c.args.tokens.now c.args.cuts.now c.args.area.now _ e }
 
 pub write-requires : goal.write-requires
 write-requires c =
     writable c.args.words.now c.args.matrix.now c.args.tokens.now c.args.cuts.now (length c.args.area.now) (sym (enough-room c.args.words.now c.args.matrix.now c.args.tokens.now c.args.cuts.now (length c.args.area.now) (sym c.grammar_in_shape.ensures ∙ c.if-not-grammar_in_shape.false) c.if-n-eq0.false c.if-n-gt16384.false
-    c.first_bad_token-token.result c.first_bad_token-token.ensures c.if-token-n.false
-    c.first_bad_cut-cut.result c.first_bad_cut-cut.ensures.0 c.if-cut-cuts.false c.if-area-needed.false))
+    c.first_bad_token.result (first-position (outside 1 (count_t c.args.words.now)) c.args.tokens.now ∙ ap found (sym c.first_bad_token.ensures)) c.in_default.is
+    c.first_bad_cut.result (sym c.first_bad_cut.ensures.bad) c.in_default-first_bad_cut.is c.if-area-needed.false))
 
 pub returns : goal.returns
 returns c =
     let e = enough-room c.args.words.now c.args.matrix.now c.args.tokens.now c.args.cuts.now (length c.args.area.now) (sym c.grammar_in_shape.ensures ∙ c.if-not-grammar_in_shape.false) c.if-n-eq0.false c.if-n-gt16384.false
-    c.first_bad_token-token.result c.first_bad_token-token.ensures c.if-token-n.false
-    c.first_bad_cut-cut.result c.first_bad_cut-cut.ensures.0 c.if-cut-cuts.false c.if-area-needed.false in
+    c.first_bad_token.result (first-position (outside 1 (count_t c.args.words.now)) c.args.tokens.now ∙ ap found (sym c.first_bad_token.ensures)) c.in_default.is
+    c.first_bad_cut.result (sym c.first_bad_cut.ensures.bad) c.in_default-first_bad_cut.is c.if-area-needed.false in
     record { answers = e; leaves = c.write.ensures ∙ area-started c.args.words.now c.args.matrix.now c.args.tokens.now c.args.cuts.now c.args.area.now e }

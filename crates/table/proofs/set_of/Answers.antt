@@ -1,46 +1,32 @@
--- 1 to 5 by `check_words`, then 21, then the set's mask and its count of ones.
-use Rattle.std.proofs.Common.{◌≡◌, ℕ, List, sym, ◌∙◌, arith}
-use Rattle.refusals.specs.declared.Answer.TheVariants.{Done}
-use Rattle.language.specs.Checks.{Passed, check_words}
-use Rattle.language.proofs.Checks.{words-pass}
+-- 1 to 5 by `Checked::new`, then 21, then the set's mask and its count of ones.
+use Rattle.std.proofs.Common.{ap, ◌∙◌, Err}
+use Rattle.std.proofs.lemmas.Result.{err_from_is_err_and}
 use Rattle.language.proofs.SetMasks.{left-ones}
 use Rattle.language.specs.Words.{grammar_of}
 use Rattle.table.specs.Loaded.{refused-set, no-such-set, given-set}
-use Rattle.table.specs.Sided.{sided, passed-laid, side-rules}
+use Rattle.table.specs.Sided.{from_end, sided, side-rules}
 use Rattle.table.specs.SetPasses.{members-set}
 use Rattle.table.proofs.set_of.Goals as goal
 
-passed : (words : List ℕ) → Done ≡ check_words words → Passed words
-passed words e = (words-pass words).0 (sym e)
-
-pub returns-in-Refused : goal.returns-in-Refused
-returns-in-Refused c =
+pub returns-in_err-grammar : goal.returns-in_err-grammar
+returns-in_err-grammar c =
     let words = c.args.words.now in
-    refused-set words c.args.k (sided c.args.from_end (grammar_of words)) c.in-Refused.refusal (sym c.in-Refused.is ∙ c.check_words.ensures)
+    let p = err_from_is_err_and c.from_residual.result c.from_residual.ensures.1 in
+    p.1 ∙ ap Err p.2 ∙ refused-set words c.args.k (sided (from_end c.args.side) (grammar_of words)) _ c.in_err-grammar.ensures
 
-pub word-requires : goal.word-requires
-word-requires c =
+pub returns-then-nonterminals-number : goal.returns-then-nonterminals-number
+returns-then-nonterminals-number c =
     let words = c.args.words.now in
-    omega (arith, (passed-laid words (passed words (sym c.in_default.is ∙ c.check_words.ensures))).headed.present)
-
-pub returns-then-word-number : goal.returns-then-word-number
-returns-then-word-number c =
-    let words = c.args.words.now in
-    no-such-set words c.args.k (sided c.args.from_end (grammar_of words)) (sym c.in_default.is ∙ c.check_words.ensures) (rw c.word.ensures at c.if-word-number.true)
-
-pub masks-masks-requires : goal.masks-masks-requires
-masks-masks-requires c = passed c.args.words.now (sym c.in_default.is ∙ c.check_words.ensures)
-
-pub bounds-masks-number : goal.bounds-masks-number
-bounds-masks-number c =
-    let words = c.args.words.now in
-    omega (arith, (passed-laid words (passed words (sym c.in_default.is ∙ c.check_words.ensures))).headed.nonterminals)
+    let g = c.in_ok-grammar.ensures in
+    no-such-set words c.args.k (sided (from_end c.args.side) (grammar_of words)) g.1 (rw (c.nonterminals.ensures.is, g.0) at c.if-nonterminals-number.true)
 
 pub returns : goal.returns
 returns c =
     let words = c.args.words.now in
     let k = c.args.k in
-    let g = sided c.args.from_end (grammar_of words) in
-    let done = sym c.in_default.is ∙ c.check_words.ensures in
-    rw (members-set (side-rules words (passed words done) c.args.from_end) c.masks-masks.result c.masks-masks.ensures k, left-ones g k)
-    (given-set words k g done (rw c.word.ensures at c.if-word-number.false))
+    let side = from_end c.args.side in
+    let grammar = c.in_ok-grammar.grammar in
+    let g = c.in_ok-grammar.ensures in
+    let mask = rw g.0 at (members-set (side-rules grammar.words.now grammar.passed side) c.masks-masks.result c.masks-masks.ensures k) in
+    rw (mask, left-ones (sided side (grammar_of words)) k)
+    (given-set words k (sided side (grammar_of words)) g.1 (rw (c.nonterminals.ensures.is, g.0) at c.if-nonterminals-number.false))

@@ -5,13 +5,13 @@ use Rattle.moving.specs.RunMoves.{Runnable, underway, underway-listed}
 use Rattle.moving.specs.Settled.{holding, settled-now}
 use Rattle.reader.proofs.calls.make_moves.Goals as goal
 
-pub hand_of-hand-requires : goal.hand_of-hand-requires
-hand_of-hand-requires c = underway-listed (underway c.requires c.args.budget)
+pub invariant_of-hand : goal.invariant_of-hand
+invariant_of-hand c = record { listed = underway-listed (underway c.requires c.args.budget) }
 
 pub moves_until-after-requires : goal.moves_until-after-requires
 moves_until-after-requires c =
     let a = c.args in
-    let at-hand = c.hand_of-hand.ensures in
+    let at-hand = c.hand-hand.ensures in
     let listed = underway-listed (underway c.requires a.budget) in
     let marks : get_or a.area.now (table_at a.c 4) 0 < 65536 = search rules in
     let made : get_or a.area.now 4 0 < 65536 = search rules in
@@ -23,7 +23,7 @@ moves_until-after-requires c =
 pub returns : goal.returns
 returns c =
     let a = c.args in
-    let at-hand = c.hand_of-hand.ensures in
+    let at-hand = c.hand-hand.ensures in
     let listed = underway-listed (underway c.requires a.budget) in
     let marks : get_or a.area.now (table_at a.c 4) 0 < 65536 = search rules in
     let made : get_or a.area.now 4 0 < 65536 = search rules in

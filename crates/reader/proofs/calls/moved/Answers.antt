@@ -6,4 +6,4 @@ use Rattle.reader.proofs.calls.moved.Goals as goal
 pub returns-in-Stick-clause-result_after : goal.returns-in-Stick-clause-result_after
 returns-in-Stick-clause-result_after c =
     let r = settled-stuck c.requires.1 _ (rw c.in-Stick.is at c.requires.0) in
-    rw c.in-Stick.is (r.0, r.1, refl)
+    rw (c.in-Stick.is, c.status_word.ensures) (r.0, r.1, refl)

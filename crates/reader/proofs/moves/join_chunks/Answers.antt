@@ -10,14 +10,14 @@ use Rattle.reader.proofs.moves.join_chunks.Goals as goal
 pub tick-requires : goal.tick-requires
 tick-requires c =
     let p = c.requires in
-    let h = c.hand_of-other.ensures in
+    let h = c.hand-other.ensures in
     rw (c.zero.ensures, c.unmark.ensures, h.base, h.from, h.head, h.end)
-    (subst (λ (l : List ℕ). Ticks l c.hand_of-other.result.moves) (sym (one-zeroed _ _ _ p))
+    (subst (λ (l : List ℕ). Ticks l c.hand-other.result.moves) (sym (one-zeroed _ _ _ p))
     (one-ready _ _ _ _ (hand-counted h (omega arith) (search rules) p.few)))
 
 pub returns : goal.returns
 unfolding join_words
 returns c =
     let p = c.requires in
-    let h = c.hand_of-other.ensures in
+    let h = c.hand-other.ensures in
     rw (c.tick.ensures, c.zero.ensures, c.unmark.ensures, h.base, h.from, h.head, h.end) (ap tick_words (one-zeroed _ _ _ p))

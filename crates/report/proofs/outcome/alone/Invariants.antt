@@ -1,14 +1,7 @@
 -- No chunk from this one on is live exactly when none after chunk 0 is.
-use Rattle.std.proofs.Common.{◌≡◌, ◌+◌, ◌*◌, ◌-◌, ◌≤◌}
+use Rattle.std.proofs.Common.{◌≡◌, ◌+◌, ◌*◌, ◌-◌}
 use Rattle.outcomes.specs.OutcomeWords.{none_live}
 use Rattle.report.proofs.outcome.alone.Given as goal
 
 abbrev pub invariant-loop-chunk : goal.invariant-loop-chunk
-invariant-loop-chunk l = record {
-  place : l.i ≡ 5 + 5 * l.chunk;
-  later : 1 ≤ l.chunk;
-  same : none_live (l.count - 1) l.area 10 ≡ none_live (l.count - l.chunk) l.area l.i;
-}
-
-abbrev pub decreases-loop-chunk : goal.decreases-loop-chunk
-decreases-loop-chunk l = l.count - l.chunk
+invariant-loop-chunk l = none_live (l.count - 1) l.area 10 ≡ none_live (l.count - l.chunk) l.area (5 + 5 * l.chunk)

@@ -1,86 +1,59 @@
--- A piece more is read and fed, the limits stay, and each buffer keeps its length; reading ends where the input or the text does.
-use Rattle.std.proofs.Common.{◌≡◌, ◌<◌, ◌-◌, List, ℕ, length, take, refl, sym, subst, ◌∙◌, arith, length-take}
-use Rattle.text.specs.Feeding.{Held, held, fed_all}
-use Rattle.text.specs.FedLimits.{InLimits, SameLengths, limits-start, limits-fed, lengths-fed}
+-- A piece more is read and fed, and the limits stay; reading ends where the input or the text does.
+use Rattle.std.proofs.Common.{◌≡◌, ◌<◌, ◌-◌, ◌+◌, ◌^◌, true, false, length, take, is_some, refl, sym, ap, ◌∙◌, subst, arith, length-take}
+use Rattle.text.specs.declared.reading.Held.{Held}
+use Rattle.text.specs.FedLimits.{InLimits, limits-start, limits-fed}
 use Rattle.rows.proofs.Reading.{nothing-read, piece-read, read-to-end, read-to-answer, read-to-turns}
 use Rattle.rows.proofs.input.read_lines.Goals as goal
-use Rattle.rows.proofs.input.read_lines.Goals.{then-loop-turns-test+else-wants_more, else-loop-turns-test}
+use Rattle.rows.proofs.input.read_lines.Goals.{then-loop-test+then-is_some, then-loop-test+else-is_some+in_ok-n+then-n-eq0, else-loop-test}
 
--- what holds after a piece
-limits-after : (h : Held) (piece : List ℕ) (fed : Held) → fed ≡ fed_all h piece → InLimits h.state → InLimits fed.state
-limits-after h piece fed e i = subst (λ (k : Held). InLimits k.state) (sym e) (limits-fed piece h i)
-
-lengths-after : (h : Held) (piece : List ℕ) (fed : Held) → fed ≡ fed_all h piece → SameLengths h fed
-lengths-after h piece fed e = subst (λ (k : Held). SameLengths h k) (sym e) (lengths-fed piece h)
-
-pub loop-turns-init : goal.loop-turns-init
-loop-turns-init g c =
-    let a = c.args in
+pub loop-init : goal.loop-init
+loop-init g c =
+    let h = c.args.held.now in
     record {
-      so_far = nothing-read a.words.now a.tokens.now a.cuts.now (g.R.Read.remaining a.input.now) c.start-state.result c.start-state.ensures;
-      in_limits = subst InLimits (sym c.start-state.ensures) limits-start;
+      so_far = nothing-read h.words h.tokens h.cuts (g.R.Read.remaining c.args.input.now) c.start-held.result c.start-held.ensures;
+      in_limits = subst InLimits (sym c.start-held.ensures) limits-start;
       piece_length = refl;
-      words_length = refl;
-      tokens_length = refl;
-      cuts_length = refl;
     }
 
-pub loop-turns-preserved : goal.loop-turns-preserved
-loop-turns-preserved g c =
-    let a = c.args in
-    let l = c.loop-turns in
-    let h = held l.state l.words l.tokens l.cuts in
-    let f = c.feed_piece-state in
-    let fed = held f.result f.new.words f.new.tokens f.new.cuts in
+pub loop-preserved : goal.loop-preserved
+loop-preserved g c =
+    let h = c.args.held.now in
+    let l = c.loop in
     let piece = take c.in_ok-n.n c.read_piece.new.piece in
-    let same = lengths-after h piece fed f.ensures in
     let some : 0 < length piece = simp length-take (omega (arith, c.if-n-eq0.false, c.in_ok-n.ensures.bound)) in
     record {
       so_far =
-          piece-read a.words.now a.tokens.now a.cuts.now (g.R.Read.remaining a.input.now) (g.R.Read.remaining l.input) (g.R.Read.remaining c.read_piece.new.input) h fed
-          l.turns
-          (l.turns - 1)
+          piece-read h.words h.tokens h.cuts (g.R.Read.remaining c.args.input.now) (g.R.Read.remaining l.input) (g.R.Read.remaining c.read_piece.new.input) l.held
+          c.feed_piece.new.self
+          (2 ^ 64 - 1 - l.counter)
+          (2 ^ 64 - 1 - (l.counter + 1))
           piece
           l.invariant.so_far
           c.in_ok-n.ensures.bytes.0
-          f.ensures
+          c.feed_piece.ensures
           some
           (omega arith);
-      in_limits = limits-after h piece fed f.ensures l.invariant.in_limits;
+      in_limits = subst (λ (k : Held). InLimits k.state) (sym c.feed_piece.ensures) (limits-fed piece l.held l.invariant.in_limits);
       piece_length = omega arith;
-      words_length = same.words_long ∙ l.invariant.words_length;
-      tokens_length = same.tokens_long ∙ l.invariant.tokens_length;
-      cuts_length = same.cuts_long ∙ l.invariant.cuts_length;
     }
-
-pub returns-then-n-eq0-clause-reads : goal.returns-then-n-eq0-clause-reads
-returns-then-n-eq0-clause-reads g c =
-    λ room.
-    let a = c.args in
-    let l = c.loop-turns in
-    let h = held l.state l.words l.tokens l.cuts in
-    read-to-end a.words.now a.tokens.now a.cuts.now (g.R.Read.remaining a.input.now) (g.R.Read.remaining l.input) (g.R.Read.remaining c.read_piece.new.input) h l.turns
-    c.finish.result
-    l.invariant.so_far
-    (rw c.if-n-eq0.true at c.in_ok-n.ensures.bytes.0)
-    (c.in_ok-n.ensures.bytes.1 c.if-n-eq0.true (omega arith))
-    c.finish.ensures
 
 pub returns-clause-reads : goal.returns-clause-reads
 returns-clause-reads g c =
     λ room.
-    let a = c.args in
-    let l = c.loop-turns in
-    let h = held l.state l.words l.tokens l.cuts in
-    elim c.loop-turns-test.branch [
-      | then-loop-turns-test+else-wants_more w ↦
-          read-to-answer a.words.now a.tokens.now a.cuts.now (g.R.Read.remaining a.input.now) (g.R.Read.remaining l.input) h l.turns c.finish-2.result
-          l.invariant.so_far
-          (λ e. let f = w.if-wants_more.ensures.1 e in cc)
-          c.finish-2.ensures
-      | else-loop-turns-test w ↦
-          read-to-turns a.words.now a.tokens.now a.cuts.now (g.R.Read.remaining a.input.now) (g.R.Read.remaining l.input) h l.turns c.finish-2.result
-          l.invariant.so_far
-          (omega arith)
-          c.finish-2.ensures
+    let h = c.args.held.now in
+    let l = c.loop in
+    let known = g.R.Read.remaining c.args.input.now in
+    let left = g.R.Read.remaining l.input in
+    let turns = 2 ^ 64 - 1 - l.counter in
+    elim c.loop-test.branch [
+      | then-loop-test+then-is_some w ↦
+          read-to-answer h.words h.tokens h.cuts known left l.held turns c.finish.result l.invariant.so_far
+          (λ e. let f : true ≡ false = sym w.if-is_some.true ∙ w.is_some.ensures ∙ ap is_some (w.answer.ensures ∙ e) in cc)
+          c.finish.ensures
+      | then-loop-test+else-is_some+in_ok-n+then-n-eq0 w ↦
+          read-to-end h.words h.tokens h.cuts known left (g.R.Read.remaining w.read_piece.new.input) l.held turns c.finish.result l.invariant.so_far
+          (rw w.if-n-eq0.true at w.in_ok-n.ensures.bytes.0)
+          (w.in_ok-n.ensures.bytes.1 w.if-n-eq0.true (omega arith))
+          c.finish.ensures
+      | else-loop-test w ↦ read-to-turns h.words h.tokens h.cuts known left l.held turns c.finish.result l.invariant.so_far (omega arith) c.finish.ensures
     ]

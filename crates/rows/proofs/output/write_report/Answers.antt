@@ -15,14 +15,14 @@ returns g c =
     let a = c.args in
     let p = c.put_parse-first in
     let e = c.put_entries-end in
-    let line = parse_line a.tokens a.chunks a.moves in
-    let first = parse-short a.tokens a.chunks a.moves (omega arith) (omega arith) (omega arith) in
-    let rest = entries-short a.entries.now (λ k. omega (arith, c.type_inv.entries k)) a.count in
-    let fits : length (line ++ entry_lines a.entries.now a.count) ≤ length a.out.now =
-    omega (arith, first, rest, room, length-append line (entry_lines a.entries.now a.count))
+    let line = parse_line a.tokens a.chunks a.report.moves in
+    let first = parse-short a.tokens a.chunks a.report.moves (omega arith) (omega arith) (omega arith) in
+    let rest = entries-short a.entries.now (λ k. omega (arith, c.type_inv.entries k)) a.report.entries in
+    let fits : length (line ++ entry_lines a.entries.now a.report.entries) ≤ length a.out.now =
+    omega (arith, first, rest, room, length-append line (entry_lines a.entries.now a.report.entries))
     in
     rw
-    (report-put a.out.now a.entries.now a.count line p.result e.result p.new.out e.new.out fits p.ensures.value
+    (report-put a.out.now a.entries.now a.report.entries line p.result e.result p.new.out e.new.out fits p.ensures.value
     p.ensures.out_after
     p.auto.out
     e.ensures.put)

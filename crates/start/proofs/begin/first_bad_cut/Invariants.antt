@@ -1,5 +1,5 @@
 -- The search has passed only right cuts, and keeps the last.
-use Rattle.std.proofs.Common.{◌≡◌, ◌-◌, ◌≤◌, ltb, length, get_or}
+use Rattle.std.proofs.Common.{◌≡◌, ltb, get_or}
 use Rattle.start.specs.Start.{cut_falls, bad_cut_at}
 use Rattle.start.specs.StartChecks.{Clear}
 use Rattle.start.proofs.begin.first_bad_cut.Given as goal
@@ -8,8 +8,4 @@ abbrev pub invariant-loop-i : goal.invariant-loop-i
 invariant-loop-i l = record {
   clear : Clear (bad_cut_at l.n l.cuts) l.i;
   last : cut_falls l.cuts l.i ≡ ltb (get_or l.cuts l.i 0) l.before;
-  within : l.i ≤ length l.cuts;
 }
-
-abbrev pub decreases-loop-i : goal.decreases-loop-i
-decreases-loop-i l = l.count - l.i

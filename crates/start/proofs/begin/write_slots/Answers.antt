@@ -1,23 +1,23 @@
 -- The zeros follow the slots, which are all stored when they begin.
-use Rattle.std.proofs.Common.{◌≡◌, ◌+◌, ◌*◌, sym, ◌∙◌, length, arith, length-set}
-use Rattle.start.proofs.StartLaw.{slots-first, slots-last, zeros-more, zeros-last, slots-stored}
+use Rattle.std.proofs.Common.{◌≡◌, ◌+◌, ◌*◌, sym, ap, ◌∙◌, length, rules, arith}
+use Rattle.std.proofs.lemmas.List.Edits.{sets}
+use Rattle.layout.specs.Layout.{zeros}
+use Rattle.start.specs.StartWords.{start_slots}
+use Rattle.start.proofs.StartLaw.{slots-first, slots-last, zeros-stored, slots-stored}
 use Rattle.start.proofs.begin.write_slots.Goals as goal
-
-pub loop-cleared-preserved : goal.loop-cleared-preserved
-loop-cleared-preserved c =
-    let l = c.loop-cleared in
-    record {
-      long = simp length-set l.invariant.long;
-      left = sym (zeros-more l.area _ _ l.cleared c.loop-cleared-test.true) ∙ l.invariant.left;
-    }
 
 pub returns : goal.returns
 returns c =
+    let area = c.args.area.now in
     let tokens = c.args.tokens.now in
+    let base = c.args.base in
     let l = c.loop-i in
-    let made = l.at + 4 in
-    let past : made ≡ c.args.base + 4 * (length tokens + 2) = omega arith in
-    let laid = c.write_slot-2.ensures ∙ sym (slots-last l.area tokens l.at l.i c.loop-i-test.false) ∙ l.invariant.left in
-    let slots = laid ∙ rw c.write_slot.ensures (slots-first c.args.area.now tokens c.args.base) in
-    sym (zeros-last c.loop-cleared.area made _ c.loop-cleared.cleared c.loop-cleared-test.false) ∙ c.loop-cleared.invariant.left
-    ∙ rw slots (slots-stored c.args.area.now tokens c.args.base made past)
+    let last = base + 4 + 4 * length tokens in
+    let all : l.i ≡ length tokens = omega (arith, c.loop-i-test.false, l.auto.i-end) in
+    let laid = c.write_slot-2.ensures ∙ sym (slots-last l.area tokens last (length tokens) (omega arith)) ∙ (rw all at l.invariant.left) in
+    let slots : c.write_slot-2.new.area ≡ sets area base (start_slots tokens) = laid ∙ rw c.write_slot.ensures (slots-first area tokens base) in
+    let past : last + 4 ≡ base + 4 * (length tokens + 2) = omega arith in
+    zeros-stored c.write_slot-2.new.area c.fill.new.self (last + 4) (3 * length tokens)
+    (omega (arith, c.requires, c.write_slot-2.auto.area, l.auto.area, c.write_slot.auto.area)) (c.fill.ensures.after (λ y k. search rules))
+    ∙ ap (λ xs. sets xs (last + 4) (zeros (3 * length tokens))) slots
+    ∙ slots-stored area tokens base (last + 4) past

@@ -1,28 +1,23 @@
 -- Each word is one step of what is still to be found.
-use Rattle.std.proofs.Common.{◌+◌, sym, ◌∙◌, arith}
-use Rattle.words.specs.Forms.{bad-here, bad-past, form-is}
-use Rattle.words.specs.Laid.{within}
+use Rattle.std.proofs.Common.{map, sym, ◌∙◌}
+use Rattle.language.specs.Symbols.{symbol_of}
+use Rattle.words.specs.Forms.{bad-all, bad-here, bad-past, bad-end}
 use Rattle.words.proofs.checks.bad_form.Goals as goal
 
-pub loop-p-init : goal.loop-p-init
-loop-p-init c =
-    let words = c.args.words.now in
-    let ends = c.body_end-end.ensures in
-    record {
-      within = rw ends (within words c.requires.0 c.args.r c.requires.1);
-      found = rw ends (form-is words c.args.r (c.entry-p.result + 1) c.requires.1 (omega arith));
-    }
+pub loop-w-init : goal.loop-w-init
+loop-w-init c = bad-all (map symbol_of c.args.right.now)
 
 pub returns-then-after-nonterminal : goal.returns-then-after-nonterminal
 returns-then-after-nonterminal c =
-    let l = c.loop-p in
-    sym (l.invariant.found ∙ bad-here c.args.words.now c.body_end-end.result l.invariant.within l.p c.loop-p-test.true l.bare l.after (rw c.word-nonterminal.ensures.is at c.if-after-nonterminal.true))
+    let l = c.loop-w in
+    sym (l.invariant ∙ bad-here c.args.right.now l.w-index c.loop-w-test.true l.bare l.after c.if-after-nonterminal.true)
 
-pub loop-p-preserved : goal.loop-p-preserved
-loop-p-preserved c =
-    let l = c.loop-p in
-    let e = c.word-nonterminal.ensures.is in
-    record {
-      within = l.invariant.within;
-      found = rw e (l.invariant.found ∙ bad-past c.args.words.now c.body_end-end.result l.invariant.within l.p c.loop-p-test.true l.bare l.after (rw e at c.if-after-nonterminal.false));
-    }
+pub loop-w-preserved : goal.loop-w-preserved
+loop-w-preserved c =
+    let l = c.loop-w in
+    l.invariant ∙ bad-past c.args.right.now l.w-index c.loop-w-test.true l.bare l.after c.if-after-nonterminal.false
+
+pub returns : goal.returns
+returns c =
+    let l = c.loop-w in
+    sym (l.invariant ∙ bad-end c.args.right.now l.w-index c.loop-w-test.false l.bare l.after)

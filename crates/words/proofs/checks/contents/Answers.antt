@@ -1,29 +1,20 @@
--- The first bad entry is found, or R; words with none are laid, and the symbols decide.
-use Rattle.std.proofs.Common.{[], ◌∷◌, suc, sym, ◌∙◌, arith}
+-- The first bad entry is found, or R; past R there is none.
+use Rattle.std.proofs.Common.{◌+◌, suc, sym, ◌∙◌, arith, Ok}
 use Rattle.refusals.specs.declared.Refusal.TheVariants.{Contents}
-use Rattle.laws.specs.Least.{first-nowhere}
-use Rattle.language.specs.Stages.{checked}
 use Rattle.language.specs.CheckContents.{bad_contents}
-use Rattle.language.specs.CheckSymbols.{symbol_stage}
 use Rattle.language.specs.Words.{count_r}
-use Rattle.words.specs.Laid.{laid}
-use Rattle.words.specs.Search.{found_at, found_nowhere}
+use Rattle.words.specs.Search.{clear-more, found_at, found_nowhere}
 use Rattle.words.proofs.checks.contents.Goals as goal
 
 pub returns-then-bad_contents : goal.returns-then-bad_contents
 returns-then-bad_contents c =
     let words = c.args.words.now in
     let l = c.loop-r in
-    found_at (bad_contents words) Contents (checked (symbol_stage ∷ []) words) (suc (count_r words)) l.r (omega arith) l.invariant.clear (sym c.bad_contents.ensures ∙ c.if-bad_contents.true)
+    found_at (bad_contents words) Contents (Ok tt) (suc (count_r words)) l.r (omega arith) l.invariant (sym c.bad_contents.ensures ∙ c.if-bad_contents.true)
 
-pub symbols-requires : goal.symbols-requires
-symbols-requires c =
+pub returns-else-bad_contents : goal.returns-else-bad_contents
+returns-else-bad_contents c =
     let words = c.args.words.now in
     let l = c.loop-r in
-    laid words c.requires (first-nowhere (bad_contents words) (suc (count_r words)) l.r (omega arith) l.invariant.clear)
-
-pub returns : goal.returns
-returns c =
-    let words = c.args.words.now in
-    let l = c.loop-r in
-    c.symbols.ensures ∙ found_nowhere (bad_contents words) Contents (checked (symbol_stage ∷ []) words) (suc (count_r words)) l.r (omega arith) l.invariant.clear
+    found_nowhere (bad_contents words) Contents (Ok tt) (suc (count_r words)) (l.r + 1) (omega arith)
+    (clear-more (bad_contents words) l.r l.invariant (sym c.bad_contents.ensures ∙ c.if-bad_contents.false))

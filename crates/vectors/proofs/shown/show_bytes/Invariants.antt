@@ -1,6 +1,0 @@
--- `shown::show_bytes`: the measure is how many bytes are left.
-use Rattle.std.proofs.Common.{length, ◌-◌}
-use Rattle.vectors.proofs.shown.show_bytes.Given as goal
-
-abbrev pub decreases-loop-i : goal.decreases-loop-i
-decreases-loop-i g l = length l.bytes - l.i
