@@ -37,7 +37,7 @@ CONTRACTS = [
     "refusals/src/lib.rt", "words/src/lib.rt", "table/src/lib.rt", "matrix/src/lib.rt", "area/src/lib.rt", "start/src/lib.rt", "reader/src/lib.rt", "parse/src/lib.rt", "report/src/lib.rt",
     "text/src/reading.rt", "lines/src/lib.rt", "grugalash/src/lib.rt",
 ]
-PUBLIC = re.compile(r'^pub (?:extern "C" )?fn (\w+)')
+PUBLIC = re.compile(r'^\s*pub (?:extern "C" )?fn (\w+)')
 # the crates whose theorems stand in proofs/, so that an edit of a definition makes a theorem fail and not a file of specs. In other
 # crates the files proofs/*.antt are lemmas of the proofs of functions
 PROOFS = ["language", "machine", "text", "demands"]
@@ -357,8 +357,8 @@ def contract_roots(files):
             if PUBLIC.match(line):
                 public, fn = True, PUBLIC.match(line).group(1)
                 count += 1
-            elif re.match(r"^(fn |\{|\})", line):
-                public = public and not line.startswith(("fn ", "{"))
+            elif re.match(r"^\s*(fn |\{|\})", line):
+                public = public and not line.lstrip().startswith(("fn ", "{"))
             if public and line.strip().startswith("ensures"):
                 for w in names_in([line]):
                     r = resolve(w, f, files)
@@ -368,11 +368,11 @@ def contract_roots(files):
                         unknown.append(w)
             if public:
                 # the types of answers
-                m = re.search(r"-> (\w+)", line)
-                if m:
-                    for key, g in files.items():
-                        if key[1] == "declared." + m.group(1):
-                            roots.append((g.blocks[m.group(1)], rel + " " + fn))
+                m = re.search(r"-> (.*)", line)
+                for word in re.findall(r"\w+", m.group(1)) if m else []:
+                    types = [(key, g) for key, g in files.items() if key[1] == "declared." + word]
+                    for key, g in [t for t in types if t[0][0] == crate] or types:
+                        roots.append((g.blocks[word], rel + " " + fn))
     return roots, unknown, count
 
 

@@ -21,8 +21,8 @@ pub struct Slot {
     pub last: u16,
 }
 
-// The five words of a chunk's row of the table. The status stays a word, not an enum's value: rule (d) is of the area's own numbers (docs/AREA.md),
-// and each test compares it once.
+// The five words of a chunk's row of the table. The status stays a word, not an enum's value: `status_fits`, `sides_fit` and `counted` of specs/Shape
+// are of the number in docs/AREA.md of any row, whatever stands there.
 #[derive(Clone, Copy)]
 pub struct Row {
     pub status: u16,
@@ -143,8 +143,9 @@ impl Lent<'_> {
         ensures { result ≡ symbol_fits self.now.terminals self.now.nonterminals slot.symbol slot.mark }
     {
         let Slot { symbol, mark, .. } = slot;
+        // below 256 a terminal, from there on a nonterminal: no enum, since the words are the area's, lent by C, of any value
         let terminal = symbol <= self.terminals;
-        let nonterminal = !(symbol < 256) & (symbol < 256 + self.nonterminals);
+        let nonterminal = (256 <= symbol) & (symbol < 256 + self.nonterminals);
         ((mark == 0) & (terminal | nonterminal)) | ((mark == 1) & (symbol != 0) & terminal)
     }
 
@@ -236,7 +237,7 @@ impl Lent<'_> {
     fn bounds_fit(&self, at: u16, row: Row) -> bool
         ensures { result ≡ pick (status_fits row.status) (bounds_fit self.now.tokens at row.from row.head row.end) false }
     {
-        ((row.status == 1) | (!(row.status < 17) & (row.status <= 20)))
+        ((row.status == 1) | ((17 <= row.status) & (row.status <= 20)))
             & ((row.from == at)
                 & (row.from <= self.tokens + 1)
                 & (row.from <= row.head)

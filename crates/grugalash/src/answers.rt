@@ -14,6 +14,8 @@ pub(crate) fn number<T>(answer: &Result<T, Refusal>) -> u32
     }
 }
 
+// The value of a refusal. This and those below are held each to a definition of its own (`answer_value`, `set_value`, `set_size`, `run_value`,
+// `report_value`, `report_moves`), which the contracts of the C interface cite: one function over what an answer gives would be told that at each call.
 pub(crate) fn value(answer: Result<(), Refusal>) -> u32
     ensures { result ≡ answer_value answer }
 {

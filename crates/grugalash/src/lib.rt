@@ -1,7 +1,8 @@
 // Each public call as a program in C or Rust makes it, declared in include/grugalash.h; the crate grugalash_c builds the static library of
 // them. A run of words or bytes crosses as an address and a length; an answer as its number, 0 on success, with its value written where the
 // caller says. Each function answers, and leaves what it was lent, as the public call does: its contract is an equation over the
-// definitions that the call's own contract cites.
+// definitions that the call's own contract cites. The C interface has each run by itself, so those that travel together stay apart here, and in
+// the public calls below; and it has a name for each side of a set, where `table` has one function under both.
 #![tactic(auto)]
 
 mod answers;

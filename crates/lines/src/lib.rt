@@ -1,6 +1,7 @@
 // The answer of `rows` as bytes: lines of decimal numbers in a lent run of bytes. Document 01, "Sample rows".
 // Each line goes to a place of the run; the answer is the place after it, or that place itself where the line has no room, and then
 // nothing is written. The run and the place stay two arguments: the promises `written` and `end_after` of these calls name both.
+// There are four calls, and not one of a word and numbers, since each is promised (docs/PROMISES.md) to write its own line of document 01.
 #![tactic(auto)]
 
 mod writing;

@@ -13,7 +13,7 @@ struct Line {
     length: usize,
 }
 
-// Clauses see the bytes that have been put.
+// Clauses see the bytes that have been put. That so much more has room is asked of each push, and no invariant: how much more is put differs in each.
 impl Model for Line {
     ghost Value = { List ℕ };
 

@@ -2,11 +2,13 @@
 -- row, and of all.
 -- Rests on specs' GrammarShape, ByteTests and EndMarkOfShape, and on laws' Looks.
 --
--- Main statements: passed, refused; all-fold, part-told; byte-here, row-told; short-fails, rows_more, part-fails, whole-told.
+-- Main statements: passed, refused; all-fold, part-told; range-passes, range-fails; byte-here, row-told, row-fit, row-fails; short-fails, rows-fit, part-fails, whole-told.
 use Rattle.std.specs.Prelude.{Ok, Err}
-use Rattle.std.proofs.Common.{◌≡◌, refl, sym, ap, ◌∙◌, ◌⊎◌, inl, inr, Bool, true, false, ◌&&◌, fold, List, [], ◌∷◌, ℕ, zero, suc, ◌-◌, ◌+◌, ◌*◌, ◌/◌, ◌%◌, ◌<◌, ◌≤◌, leb, ltb, length, get_or, take, drop, arith, length-drop, length-take-le}
+use Rattle.std.proofs.Common.{◌≡◌, refl, sym, ap, subst, ◌∙◌, ◌⊎◌, inl, inr, Bool, true, false, ◌&&◌, fold, List, [], ◌∷◌, ℕ, zero, suc, ◌-◌, ◌+◌, ◌*◌, ◌/◌, ◌%◌, ◌<◌, ◌≤◌, leb, ltb, length, get_or, take, drop, arith, length-drop, length-take-le}
 use Rattle.std.proofs.lemmas.List.{get_or-take, get_or-drop}
-use Rattle.std.specs.List.{list_all}
+use Rattle.std.specs.List.{list_all, AllWithin, HoldsAt, range_with_len}
+use Rattle.std.specs.Bool.{MatchBool}
+use Rattle.std.proofs.lemmas.List.FromFn.{length-range_with_len, get_or-range_with_len}
 use Rattle.std.proofs.Math.Decide.{dec_lt}
 use Rattle.laws.specs.Tests.{all, up_to, false-unless, not-both, same_test, and_both, both-and, lt-leb, le-leb, lt-ltb}
 use Rattle.laws.specs.Looks.{TellsAll}
@@ -77,6 +79,22 @@ module _ (test : ℕ → Bool) where
       place e v i j (yes l) = before v i l
       place e v i j (no l) = sym (same v (omega arith) j) ∙ tells.0 e v (omega arith) j
 
+-- what std's `all` over 0..n tells
+module _ (Yes No : ℕ → Type 0) (n : ℕ) (r : Bool) (told : MatchBool r (AllWithin Yes (range_with_len 0 n) 0 (length (range_with_len 0 n))) ((k : ℕ) × (k < length (range_with_len 0 n)) × HoldsAt No (range_with_len 0 n) k)) where
+  abbrev Told : Bool → Type 0
+  Told b = MatchBool b (AllWithin Yes (range_with_len 0 n) 0 (length (range_with_len 0 n))) ((k : ℕ) × (k < length (range_with_len 0 n)) × HoldsAt No (range_with_len 0 n) k)
+
+  pub range-passes : r ≡ true → (k : ℕ) → k < n → Yes k
+  range-passes e k h =
+      let all : Told true = subst Told e told in
+      subst Yes (omega (arith, get_or-range_with_len 0 n k 0 h)) (all k 0 (omega arith) (omega (arith, length-range_with_len 0 n)))
+
+  pub range-fails : r ≡ false → (k : ℕ) × (k < n) × No k
+  range-fails e =
+      let one : Told false = subst Told e told in
+      let h : one.0 < n = omega (arith, one.1, length-range_with_len 0 n) in
+      (one.0, h, subst No (omega (arith, get_or-range_with_len 0 n one.0 0 h)) (one.2 0))
+
 module _ (t : ℕ) (matrix : List ℕ) where
   pub byte-here : (a b : ℕ) → b < 64 → byte_at t matrix (64 * a + b) ≡ byte_fits t a b (get_or matrix (64 * a + b) 0)
   byte-here a b h =
@@ -99,16 +117,22 @@ module _ (t : ℕ) (matrix : List ℕ) where
   row-told a r h before zeros =
       rest-told (byte_at t matrix) (zero_at matrix) (64 * a) (64 * a + (t + 1)) (64 * a + 64) r (omega arith) before (λ v i j. past v (inr (omega arith))) zeros
 
+  -- its bytes up to t fit, byte by byte
+  pub row-fit : (a : ℕ) → ((b : ℕ) → b < t + 1 → byte_at t matrix (64 * a + b) ≡ true) → (v : ℕ) → 64 * a ≤ v → v < 64 * a + (t + 1) → byte_at t matrix v ≡ true
+  row-fit a bytes v i j = subst (λ w. byte_at t matrix w ≡ true) (omega arith) (bytes (v - 64 * a) (omega arith))
+
+  -- one of them does not
+  pub row-fails : (a b : ℕ) (r : Bool) → b < 64 → byte_at t matrix (64 * a + b) ≡ false → r ≡ false → TellsAll (byte_at t matrix) (64 * a) (64 * a + 64) r
+  row-fails a b r h fails e = (
+    λ p. absurd (not-both r p e),
+    λ all. absurd (not-both (byte_at t matrix (64 * a + b)) (all (64 * a + b) (omega arith) (omega arith)) fails),
+  )
+
   -- ---- (b), every byte
 
-  -- the rows before a fit, and a too
-  pub rows_more : (a : ℕ) (r : Bool) → ((v : ℕ) → v < 64 * a → byte_at t matrix v ≡ true) → TellsAll (byte_at t matrix) (64 * a) (64 * a + 64) r → r ≡ true
-      → (v : ℕ) → v < 64 * (a + 1) → byte_at t matrix v ≡ true
-  rows_more a r before tells e v h = go (dec_lt v (64 * a))
-    where
-      go : Dec (v < 64 * a) → byte_at t matrix v ≡ true
-      go (yes l) = before v l
-      go (no l) = tells.0 e v (omega arith) (omega arith)
+  -- every row before the n-th fits
+  pub rows-fit : (n : ℕ) → ((a : ℕ) → a < n → TellsAll (byte_at t matrix) (64 * a) (64 * a + 64) true) → (v : ℕ) → v < 64 * n → byte_at t matrix v ≡ true
+  rows-fit n rows v h = (rows (v / 64) (omega arith)).0 refl v (omega arith) (omega arith)
 
   pub short-fails : length matrix < 4096 → rule_b t matrix ≡ false
   short-fails h = ap (λ (b : Bool). pick b (all (byte_at t matrix) (up_to 4096)) false) (lt-leb 4096 (length matrix) h)

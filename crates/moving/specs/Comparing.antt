@@ -2,11 +2,12 @@
 -- Rests on MatchWords and on words' Laid.
 --
 -- Main statements: body-next, body-last (where a right side ends); part-slice (its words); count_fits (a handle has no more symbols than slots); same_length (a right
--- side of another length), same-there, same-past, same-differ (the next word and the next block), same-both (both end).
+-- side of another length), same-there, same-past, same-differ (the next word and the next block), same-both (both end); same-there-at, counts-on-at,
+-- same-past-at, same-differ-at, same-both-at (the same of words i up to `end` of the grammar).
 use Rattle.std.specs.Prelude.{ℕ, suc, ◌+◌, ◌-◌, ◌<◌, ◌≤◌, ◌≡◌, refl, Bool, true, false, ◌&&◌, List, [], ◌∷◌, eqb, length, get_or, take, drop}
 use Rattle.std.proofs.Common.{sym, ap, ◌∙◌, arith, add-one, drop_of_length-le, drop-cons, length-take, length-drop}
 use Rattle.std.proofs.Math.Seq.{slice}
-use Rattle.std.proofs.lemmas.List.{drop-take}
+use Rattle.std.proofs.lemmas.List.{drop-take, get_or-take, length-take-le}
 use Rattle.laws.specs.Tests.{eq-eqb, ne_eqb}
 use Rattle.language.specs.Words.{count_r, entry, body_end}
 use Rattle.words.specs.Laid.{ends_next, ends_last}
@@ -86,3 +87,34 @@ module _ (right area : List ℕ) (head i s : ℕ) where
 
   pub same-both : Whole area head s → length right ≤ i → i + length (handle_words area s head) ≡ length right → same ≡ true
   same-both w l counts = rw (drop_of_length-le right {i = i} l, handle-none area s head (count-end w (omega (arith, counts))))
+
+-- where the right side is words i up to `end` of the grammar, which are those of `take end words` from word i on
+module _ (words : List ℕ) (end : ℕ) (fits : end ≤ length words) (area : List ℕ) (head : ℕ) (i s : ℕ) where
+  long : length (take end words) ≡ end
+  long = length-take-le end words fits
+
+  module _ (w : Whole area head s) (there : i < end) (counts : i + length (handle_words area s head) ≡ end) where
+    there-of : i < length (take end words)
+    there-of = omega (arith, there, long)
+
+    counts-of : i + length (handle_words area s head) ≡ length (take end words)
+    counts-of = counts ∙ sym long
+
+    word-of : get_or (take end words) i 0 ≡ get_or words i 0
+    word-of = get_or-take end words i 0 there
+
+    pub same-there-at : s < head
+    same-there-at = same-there (take end words) area head i s w there-of counts-of
+
+    pub counts-on-at : i + 1 + length (handle_words area (s + slot_word area s 2) head) ≡ end
+    counts-on-at = counts-on (take end words) area head i s w there-of counts-of ∙ long
+
+    pub same-past-at : get_or words i 0 ≡ slot_word area s 0
+        → same_words (slice i end words) (handle_words area s head) ≡ same_words (slice (i + 1) end words) (handle_words area (s + slot_word area s 2) head)
+    same-past-at e = same-past (take end words) area head i s w there-of counts-of (word-of ∙ e)
+
+    pub same-differ-at : (get_or words i 0 ≡ slot_word area s 0 → ⊥) → same_words (slice i end words) (handle_words area s head) ≡ false
+    same-differ-at d = same-differ (take end words) area head i s w there-of counts-of (λ e. d (sym word-of ∙ e))
+
+  pub same-both-at : Whole area head s → end ≤ i → i + length (handle_words area s head) ≡ end → same_words (slice i end words) (handle_words area s head) ≡ true
+  same-both-at w l counts = same-both (take end words) area head i s w (omega (arith, l, long)) (counts ∙ sym long)

@@ -15,8 +15,8 @@ pub struct Hand {
     pub reductions: u32,
     pub moves: u32,
     pub base: usize,
-    // 256 where it has none. As an Option<u16> it makes `parse` of a long row 2 to 10 % slower (9 instructions a token more), as an
-    // Option<usize> 19 to 32 %: docs/BENCH.md's goal "faster than Bison's" would be missed.
+    // 256 where it has none. As an Option<u16> it takes 6 to 9 instructions a token and 2 to 10 % of time more, as an Option<usize> 18 to 32 % of time
+    // (docs/BENCH.md, "Tried and left out"): the library is to be as fast as C by hand, the first goal there, from which both take it farther.
     pub top: u32,
 }
 
@@ -43,5 +43,5 @@ pub enum Move {
     Push(bool),
     Stick(Stuck),
     Accept,
-    Reduce(u16, u16, u16),
+    Reduce { from: u16, symbol: u16, rule: u16 },
 }

@@ -16,12 +16,15 @@ pub(crate) fn read(words: &[u16], tokens: &[u16], area: &mut [u16]) -> Result<()
     reader::read_through(words, &matrix, tokens, area)
 }
 
-// The answer of a row at rest, whose report is written where there is one and room for it: its reductions stand in order.
+// The answer of a row at rest, whose report is written where there is one and room for it: its reductions stand in order. Apart from report's
+// `outcome`: as a public function that asks nothing (docs/DECISIONS.md) it would first test what is proved here, and then look through the entries,
+// which takes a tenth of the time of a parse.
 fn outcome(area: &[u16], out: &mut [u16]) -> Result<Report, Refusal>
     requires { Finished area.now }
     ensures value { result ≡ outcome_answer (words_outcome area.now) (length out.old) }
     ensures out_after { out.new ≡ outcome_out (words_outcome area.now) out.old }
 {
+    // The status is a word of the area (docs/AREA.md), and no enum: a row is stuck from 17 on, and `stuck_refusal` is promised of any word.
     let status = area[5];
     if 17 <= status {
         return Err(refusals::stuck_refusal(status, (area[7] - 1) as u32));

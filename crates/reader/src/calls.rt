@@ -32,7 +32,7 @@ fn moved(area: &mut [u16], c: usize, mut hand: Hand, next: Move) -> Hand
             hand
         }
         Move::Accept => moves::accept(area, c, hand),
-        Move::Reduce(from, symbol, rule) => moves::reduce(area, c, hand, from, symbol, rule),
+        Move::Reduce { from, symbol, rule } => moves::reduce(area, c, hand, from, symbol, rule),
     }
 }
 

@@ -17,7 +17,8 @@ pub(crate) struct Chunk<'a> {
     pub ghost listed: { (c < get_or area.now 1 0) × (slots_at area.now ≤ length area.now) },
 }
 
-// The count of moves, which stands in two words.
+// The count of moves, which stands in two words, where `store_moves` puts it. As in `report`, `parse` and `area`, each of which reads it where its own
+// contract knows that the words are there: a public function asks nothing, and would test that again.
 fn moves_of(area: &[u16]) -> u32
     requires { 4 ≤ length area.now }
     ensures { result ≡ moves_in area.now }
@@ -41,7 +42,7 @@ impl<'a> Chunk<'a> {
         Some(chunk)
     }
 
-    // Word k of its row of the table.
+    // Word k of its row of the table. By its number: `live` and `next_live` read one word, and `hand` has a field for each.
     fn row_word(self, k: usize) -> u16
         requires { k < 5 }
         ensures { result ≡ row_word self.entry.area.now self.entry.c k }

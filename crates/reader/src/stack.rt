@@ -180,7 +180,8 @@ impl<'a> Stack<'a> {
     }
 }
 
-// The word place at which rule r's body starts.
+// The word place at which rule r's body starts. This and the next are no public function of `words`, as `words::body_of` is: a public function asks
+// nothing, and would test at each word what the rule search knows.
 pub(crate) fn body_start(words: &[u16], r: usize) -> usize
     requires { 4 + r < length words.now }
     ensures { result ≡ entry words.now r }

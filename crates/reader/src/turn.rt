@@ -65,7 +65,7 @@ impl<'a> Turn<'a> {
         }
     }
 
-    // Rules 3 to 6: a is the topmost terminal and b the next symbol.
+    // Rules 3 to 6: a is the topmost terminal and b the next symbol. The bytes 1, 2 and 3 are document 01's numbers of the matrix, which C lends.
     fn related(self, a: u16, b: u16) -> Move
         requires { Facing self.words.now self.matrix.now (settled self.area.now self.c self.hand) self.c a b }
         ensures { CallsFor self.entry.words.now self.entry.matrix.now (settled self.entry.area.now self.entry.c self.entry.hand) self.entry.c result }
@@ -103,7 +103,11 @@ impl<'a> Turn<'a> {
         let stack = self.stack();
         let handle = stack.find_handle();
         match stack.match_rule(handle, self.words) {
-            Some(r) => Move::Reduce(handle.start as u16, left_word(self.words, r), r),
+            Some(r) => Move::Reduce {
+                from: handle.start as u16,
+                symbol: left_word(self.words, r),
+                rule: r,
+            },
             None => Move::Stick(Stuck::NoRule),
         }
     }

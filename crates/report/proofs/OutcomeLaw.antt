@@ -1,6 +1,7 @@
 -- What the steps of the module `outcome` find and write.
--- Main statements: none-step; report-written.
-use Rattle.std.proofs.Common.{◌≡◌, sym, ap, ◌∙◌, false, List, [], ◌++◌, append-nil, ℕ, suc, ◌+◌, ◌*◌, ◌-◌, ◌/◌, ◌≤◌, ◌<◌, eqb, length, get_or, take, drop, arith}
+-- Main statements: none-alive; report-written.
+use Rattle.std.proofs.Common.{◌≡◌, refl, sym, ap, ◌∙◌, Bool, true, false, ◌&&◌, List, [], ◌++◌, append-nil, ℕ, zero, suc, ◌+◌, ◌*◌, ◌-◌, ◌/◌, ◌≤◌, eqb, length, get_or, take, drop, arith}
+use Rattle.std.specs.List.{list_all, range_with_len}
 use Rattle.laws.specs.Picks.{pick}
 use Rattle.language.specs.Trees.{Span, Reduction}
 use Rattle.language.specs.Reports.{put_in_order, report_words}
@@ -10,10 +11,17 @@ use Rattle.outcomes.specs.EntryWords.{entries, entries-words, entries-length}
 use Rattle.outcomes.specs.OutcomeWords.{none_live}
 use Rattle.report.proofs.SortLaw.{front-is}
 
--- a row of the table more
-pub none-step : (area : List ℕ) (i chunk count : ℕ) → chunk < count
-    → none_live (count - chunk) area i ≡ pick (eqb (get_or area i 0) 0) (none_live (count - (chunk + 1)) area (i + 5)) false
-none-step area i chunk count h = let e : count - chunk ≡ suc (count - (chunk + 1)) = omega arith in rw (e, none_live)
+-- each of so many chunks, from this one on, is looked at
+none-more : (b : Bool) {rest more : Bool} → rest ≡ more → (b && rest) ≡ pick b more false
+none-more true e = e
+none-more false e = refl
+
+pub none-alive : (area : List ℕ) (count chunk i : ℕ) → 5 + 5 * chunk ≡ i
+    → list_all (λ c. eqb (get_or area (5 + 5 * c) 0) 0) (range_with_len chunk count) ≡ none_live count area i
+none-alive area zero chunk i e = refl
+none-alive area (suc count) chunk i e =
+    none-more (eqb (get_or area (5 + 5 * chunk) 0) 0) (none-alive area count (chunk + 1) (i + 5) (omega (arith, e)))
+    ∙ ap (λ j. pick (eqb (get_or area j 0) 0) (none_live count area (i + 5)) false) e
 
 -- the reductions copied to a run, and put in order there
 pub report-written : (area : List ℕ) (made count : ℕ) {copied last : List ℕ} → made + 3 * count ≤ length area

@@ -7,6 +7,7 @@ mod outcome;
 ghost use Rattle.std.specs.Prelude.{◌≡◌, length};
 ghost use Rattle.report.specs.ReportCall.{report_answer, report_out, entry_start, entry_end, entry_tokens, word_address};
 
+use outcome::Reading;
 use refusals::{Refusal, Report};
 use std::ops::Range;
 
@@ -49,5 +50,5 @@ pub fn report(
     if !area::in_shape(words, matrix, area) {
         return Err(Refusal::BadState);
     }
-    outcome::outcome(area, out)
+    Reading { area }.outcome(out)
 }

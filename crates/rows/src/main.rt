@@ -48,7 +48,7 @@ fn answer_text<W: Write>(output: &mut W, said: Result<Counts, Line>, held: &Held
             let cuts = &held.cuts[..counts.cuts];
             answer_row(output, words, tokens, cuts)
         }
-        Err(line) => output::write_text(output, line as u32),
+        Err(line) => output::write_text(output, line.number()),
     }
 }
 

@@ -1,4 +1,6 @@
 // The answer on standard output, each line ended by a line feed.
+// The writer and the run of bytes stay arguments, beside a row's tokens, chunks and entries: a struct of them would be made for one call, of `write_row`,
+// and taken apart in the next two, and clauses would name `W.contents` of its field. That the run has room is no field's fact: it is of the answer too.
 ghost use Rattle.std.specs.Prelude.{◌≡◌, ◌+◌, ◌*◌, ◌≤◌, ◌++◌, length, take, OnOk};
 ghost use Rattle.std.specs.Io.KnownBytes.{Appends};
 ghost use Rattle.refusals.specs.Refusals.{number_of, value_of};

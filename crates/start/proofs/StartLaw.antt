@@ -8,6 +8,7 @@ use Rattle.std.specs.Prelude.{None, Ok, Err}
 use Rattle.std.specs.List.{list_all, position_or_len}
 use Rattle.std.proofs.lemmas.List.Folds.{list_all_at}
 use Rattle.std.proofs.lemmas.List.{length-replicate}
+use Rattle.std.proofs.lemmas.List.Sums.{passes_at_first}
 use Rattle.std.proofs.Math.Decide.{dec_lt}
 use Rattle.laws.specs.Tests.{not-both, le-ltb}
 use Rattle.std.proofs.Math.Numerals.{add-four}
@@ -19,7 +20,7 @@ use Rattle.layout.specs.Layout.{need, zeros}
 use Rattle.start.specs.Start.{start_answer, started_area, start_area}
 use Rattle.start.specs.StartWords.{start_front, start_rows, start_slot, unread_slots, start_slots, start_words, length-start-rows, length-start-slots}
 use Rattle.start.specs.StartWords.{start-words, start-words-length}
-use Rattle.start.specs.StartChecks.{at-place, writable, right_cuts}
+use Rattle.start.specs.StartChecks.{writable, right_cuts}
 
 pub slots-last : (area tokens : List ℕ) (at i : ℕ) → length tokens ≤ i → sets area at (unread_slots (drop i tokens)) ≡ sets area at (start_slot 0)
 slots-last area tokens at i h = rw (drop_of_length-le tokens {i = i} h)
@@ -32,7 +33,7 @@ pub none-found : (test : ℕ → Bool) (xs : List ℕ) → list_all (λ x. not (
 none-found test xs e = go (dec_lt (position_or_len test xs) (length xs))
   where
     go : Dec (position_or_len test xs < length xs) → None ≡ position test xs
-    go (yes h) = absurd (not-both (list_all (λ x. not (test x)) xs) e (list_all_at (λ x. not (test x)) xs (position_or_len test xs) 0 h (ap not (at-place test xs h))))
+    go (yes h) = absurd (not-both (list_all (λ x. not (test x)) xs) e (list_all_at (λ x. not (test x)) xs (position_or_len test xs) 0 h (ap not (passes_at_first test xs 0 h))))
     go (no h) = rw (le-ltb (position_or_len test xs) (length xs) (omega arith))
 
 -- a part of the area, stored as a whole

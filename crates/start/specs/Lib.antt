@@ -1,4 +1,5 @@
 pub mod Start
 pub mod StartChecks
 pub mod StartKept
+pub mod StartPlaces
 pub mod StartWords

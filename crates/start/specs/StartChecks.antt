@@ -6,12 +6,13 @@
 -- Main definitions: found, bad_tokens, bad_cuts, Writable.
 -- Main statements: stopped, passed (what a search has found), first-position (the library's search); the answer, check by check: broken-grammar, no_token, many-tokens, bad-token,
 -- bad-cut, small-room, enough-room; writable, right_cuts (what holds where nothing is refused).
-use Rattle.std.specs.Prelude.{◌≡◌, refl, Bool, true, false, not, cond, ◌||◌, List, [], ◌∷◌, ℕ, zero, suc, ◌+◌, ◌≤◌, ◌<◌, ltb, eqb, length, get_or, Some, None, position, Ok, Err}
+use Rattle.std.specs.Prelude.{◌≡◌, refl, Bool, true, false, ◌||◌, List, [], ◌∷◌, ℕ, zero, suc, ◌+◌, ◌≤◌, ◌<◌, ltb, eqb, length, get_or, Some, None, position, Ok, Err}
 use Rattle.std.specs.Prelude as Prelude
 use Rattle.std.specs.List.{position_or_len}
-use Rattle.std.proofs.Common.{sym, ◌∙◌, add-one, one-add, arith}
+use Rattle.std.proofs.Common.{sym, ◌∙◌, add-one, arith}
 use Rattle.std.proofs.Math.Path.{ap}
 use Rattle.std.proofs.lemmas.Bool.{false≢true}
+use Rattle.std.proofs.lemmas.List.Sums.{fails_before_first, passes_at_first}
 use Rattle.std.proofs.Math.Option.{Option, none, some}
 use Rattle.std.proofs.Math.Decide.{dec_lt}
 use Rattle.std.proofs.Math.ListN.{get_or-eq_default}
@@ -53,31 +54,15 @@ module _ (bad : ℕ → Bool) (n i : ℕ) (clear : Clear bad i) where
 
 -- the search for the first element of a list that passes a test
 module _ (test : ℕ → Bool) where
-  before-place : (xs : List ℕ) → Clear (λ i. test (get_or xs i 0)) (position_or_len test xs)
-  before-place [] = λ k h. absurd (omega arith)
-  before-place (x ∷ xs) = go (test x) refl (before-place xs)
-    where
-      go : (b : Bool) → test x ≡ b → Clear (λ i. test (get_or xs i 0)) (position_or_len test xs)
-          → Clear (λ i. test (get_or (x ∷ xs) i 0)) (cond (not b) (1 + position_or_len test xs) 0)
-      go true e rest k h = absurd (omega arith)
-      go false e rest zero h = e
-      go false e rest (suc k) h = rest k (omega arith)
-
-  pub at-place : (xs : List ℕ) → position_or_len test xs < length xs → test (get_or xs (position_or_len test xs) 0) ≡ true
-  at-place [] = λ h. absurd (omega arith)
-  at-place (x ∷ xs) = go (test x) refl (at-place xs)
-    where
-      go : (b : Bool) → test x ≡ b → (position_or_len test xs < length xs → test (get_or xs (position_or_len test xs) 0) ≡ true)
-          → cond (not b) (1 + position_or_len test xs) 0 < length (x ∷ xs) → test (get_or (x ∷ xs) (cond (not b) (1 + position_or_len test xs) 0) 0) ≡ true
-      go true e rest h = e
-      go false e rest h = rw one-add (rest (omega arith))
+  before : (xs : List ℕ) → Clear (λ i. test (get_or xs i 0)) (position_or_len test xs)
+  before xs k h = fails_before_first test xs k 0 h
 
   pub first-position : (xs : List ℕ) → first_below (λ i. test (get_or xs i 0)) (length xs) ≡ found (position test xs)
   first-position xs = go (dec_lt (position_or_len test xs) (length xs))
     where
       go : Dec (position_or_len test xs < length xs) → first_below (λ i. test (get_or xs i 0)) (length xs) ≡ found (position test xs)
-      go (yes h) = rw (lt-ltb (position_or_len test xs) (length xs) h) (first-at (λ i. test (get_or xs i 0)) (length xs) (position_or_len test xs) h (before-place xs) (at-place xs h))
-      go (no h) = rw (le-ltb (position_or_len test xs) (length xs) (omega arith)) (first-nowhere (λ i. test (get_or xs i 0)) (length xs) (position_or_len test xs) (omega arith) (before-place xs))
+      go (yes h) = rw (lt-ltb (position_or_len test xs) (length xs) h) (first-at (λ i. test (get_or xs i 0)) (length xs) (position_or_len test xs) h (before xs) (passes_at_first test xs 0 h))
+      go (no h) = rw (le-ltb (position_or_len test xs) (length xs) (omega arith)) (first-nowhere (λ i. test (get_or xs i 0)) (length xs) (position_or_len test xs) (omega arith) (before xs))
 
 module _ (n : ℕ) (cuts : List ℕ) where
   -- a cut is bad by the two tests that the code joins

@@ -1,15 +1,15 @@
--- A table of zeros filled row by row, each row from its start as far as its values go on.
+-- A table of zeros filled row by row, each row from its start as far as its values go on; and a table copied from the front to a longer run.
 -- Document 01, "Sets and matrix": "The matrix has 64 by 64 entries, one byte each, a over b at 64a + b; unused ones are 0"; "anything
 -- beyond is untouched".
 -- Rests on laws' Tabulate.
 --
--- Main definition: Rowed. Main statements: row_more, row_last; rowed-none, rowed-more, rowed-whole.
-use Rattle.std.specs.Prelude.{◌≡◌, refl, ◌⊎◌, List, ℕ, zero, suc, ◌+◌, ◌*◌, ◌-◌, ◌≤◌, ◌<◌, length, get_or, set, replicate}
-use Rattle.std.proofs.Common.{sym, ◌∙◌, inl, inr, arith, length-set, get_or-set_same, get_or-set_other, ext_get_or}
+-- Main definition: Rowed. Main statements: row_first, row_more, row_last; rowed-none, rowed-more, rowed-whole; copied_more, copied-whole.
+use Rattle.std.specs.Prelude.{◌≡◌, refl, ◌⊎◌, List, ◌++◌, ℕ, zero, suc, ◌+◌, ◌*◌, ◌-◌, ◌≤◌, ◌<◌, length, get_or, take, drop, set, replicate}
+use Rattle.std.proofs.Common.{sym, ap, ◌∙◌, inl, inr, arith, add-one, length-set, get_or-set_same, get_or-set_other, ext_get_or, take-suc, drop-cons, length-take-le, take_all}
 use Rattle.std.proofs.Math.Decide.{dec_lt, ℕ_discrete}
-use Rattle.std.proofs.lemmas.List.{length-replicate, get_or-replicate}
+use Rattle.std.proofs.lemmas.List.{length-replicate, get_or-replicate, set_at}
 use Rattle.std.proofs.lemmas.List.Edits.{sets}
-use Rattle.std.proofs.Math.Seq.{length-sets}
+use Rattle.std.proofs.Math.Seq.{length-sets, append_snoc}
 use Rattle.laws.specs.Tabulate.{tabulate, tabulate_from, length-tabulate, get_d_tabulate}
 
 -- ---- one row: the values h at, h (at + 1), .. , put from `at` on
@@ -22,6 +22,13 @@ module _ (h : ℕ → ℕ) where
   row_more table start b t l =
       let e : t + 1 - b ≡ suc (t + 1 - (b + 1)) = omega arith in
       let f : start + (b + 1) ≡ suc (start + b) = omega arith in
+      rw (e, f)
+
+  pub row_first : (table : List ℕ) (start t : ℕ)
+      → sets table (start + 0) (tabulate_from h (t + 1 - 0) (start + 0)) ≡ sets table start (tabulate_from h (t + 1) start)
+  row_first table start t =
+      let e : t + 1 - 0 ≡ t + 1 = omega arith in
+      let f : start + 0 ≡ start = omega arith in
       rw (e, f)
 
   pub row_last : (table : List ℕ) (start b t : ℕ) → t < b → sets table (start + b) (tabulate_from h (t + 1 - b) (start + b)) ≡ table
@@ -89,3 +96,24 @@ module _ (f : ℕ → ℕ) (size : ℕ) where
       at : (v : ℕ) → v < size → Dec (v < 64 * a) → get_or table v 0 ≡ get_or (tabulate f size) v 0
       at v l (yes k) = r.filled v k ∙ sym (get_d_tabulate f size v 0 l)
       at v l (no k) = r.bare v (omega arith) l ∙ sym (none v (omega arith) l) ∙ sym (get_d_tabulate f size v 0 l)
+
+-- ---- the copy
+
+module _ (table run : List ℕ) (n : ℕ) (long : length table ≡ n) (room : n ≤ length run) where
+  -- one entry more is copied
+  pub copied_more : (i : ℕ) (now : List ℕ) → i < n → now ≡ take i table ++ drop i run → set now i (get_or table i 0) ≡ take (i + 1) table ++ drop (i + 1) run
+  copied_more i now h e =
+      rw (
+        e,
+        add-one i,
+        drop-cons run i 0 (omega arith),
+        set_at (take i table) (get_or run i 0) (drop (suc i) run) (get_or table i 0) i (length-take-le i table (omega arith)),
+        take-suc table i 0 (omega arith),
+        append_snoc,
+      )
+
+  -- all are, and what stood beyond stands there
+  pub copied-whole : (i : ℕ) (now : List ℕ) → n ≤ i → i ≤ n → now ≡ take i table ++ drop i run → now ≡ table ++ drop n run
+  copied-whole i now h k e =
+      let q : i ≡ n = omega arith in
+      (rw q at e) ∙ ap (λ (l : List ℕ). l ++ drop n run) (take_all n table (omega arith))

@@ -2,6 +2,8 @@ pub mod Edges
 pub mod Filled
 pub mod Loaded
 pub mod MaskRows
+pub mod NumberedPairs
+pub mod PlacedWalks
 pub mod RelationRows
 pub mod SetPasses
 pub mod Shown

@@ -3,13 +3,14 @@
 -- right sides from their start or from their end.
 -- Rests on words' Laid, and on language's Words, Mirror, WordsInRange and Checks.
 --
--- Main definitions: from_end, turned, sided, RulesOf. Main statements: side-length, passed-laid, side-rules.
-use Rattle.std.specs.Prelude.{◌≡◌, refl, Bool, true, false, ℕ, suc, ◌-◌, ◌≤◌, ◌<◌, length}
-use Rattle.std.proofs.Common.{sym, ◌∙◌, arith}
+-- Main definitions: from_end, turned, sided, RulesOf. Main statements: part_at, from_start, from-the-end, side-length, passed-laid, passed-long, passed-body, side-rules.
+use Rattle.std.specs.Prelude.{◌≡◌, refl, Bool, true, false, ℕ, suc, ◌+◌, ◌-◌, ◌≤◌, ◌<◌, length, get_or, take}
+use Rattle.std.proofs.Common.{sym, ◌∙◌, arith, get_or-take, get_or-drop}
 use Rattle.std.proofs.Math.Path.{ap}
-use mathlib.Core.List.{List, [], ◌∷◌, map, reverse, reverse_aux, Memᴰ, reverse-reverse}
-use Rattle.std.proofs.lemmas.List.{length-reverse, length-map}
-use Rattle.std.proofs.Math.Seq.{length-slice}
+use mathlib.Core.List.{List, [], ◌∷◌, map, reverse, reverse_aux, Memᴰ, reverse_aux-eq, reverse-reverse}
+use Rattle.std.proofs.Math.Decide.{dec_lt}
+use Rattle.std.proofs.lemmas.List.{length-reverse, length-map, get_or_at}
+use Rattle.std.proofs.Math.Seq.{slice, length-slice}
 use Rattle.laws.specs.Tests.{up_to-below, below-up_to}
 use Rattle.laws.specs.Least.{Nowhere, finds-none}
 use Rattle.language.specs.Symbols.{Symbol, symbol_of}
@@ -23,7 +24,7 @@ use Rattle.language.proofs.Mirror.{mirrored-plays, mirrored-left, mirrored-rule,
 use Rattle.language.specs.SetMasks.{InRange}
 use Rattle.language.proofs.SetMasks.{in-range-mirrored}
 use Rattle.language.proofs.WordsInRange.{rules-count, rule-at, in_range, few-terminals, few-nonterminals}
-use Rattle.words.specs.Laid.{Laid, headed, laid}
+use Rattle.words.specs.Laid.{Laid, headed, laid, within, short}
 use Rattle.table.specs.declared.sets.Side.{Side}
 use Rattle.table.specs.declared.sets.Side.TheVariants.{Left, Right}
 
@@ -43,6 +44,34 @@ sided false g = g
 sided true g = mirrored g
 
 -- ---- turned strings
+
+-- from the end: what stands before r, turned round
+reversed-at : (l r : List ℕ) (i : ℕ) → i < length l → get_or (reverse_aux l r) i 0 ≡ get_or l (length l - 1 - i) 0
+reversed-at [] r i h = absurd (omega arith)
+reversed-at (x ∷ l) r i h = go (dec_lt i (length l)) (reversed-at l (x ∷ r) i)
+  where
+    go : Dec (i < length l) → (i < length l → get_or (reverse_aux l (x ∷ r)) i 0 ≡ get_or l (length l - 1 - i) 0)
+        → get_or (reverse_aux l (x ∷ r)) i 0 ≡ get_or (x ∷ l) (suc (length l) - 1 - i) 0
+    go (yes k) rest = let e : suc (length l) - 1 - i ≡ suc (length l - 1 - i) = omega arith in rest k ∙ rw e
+    go (no k) rest =
+        let e : suc (length l) - 1 - i ≡ 0 = omega arith in
+        let q : length (reverse l) ≡ i = length-reverse l ∙ omega arith in
+        ap (λ (w : List ℕ). get_or w i 0) (reverse_aux-eq l (x ∷ r)) ∙ get_or_at (reverse l) x r 0 i q ∙ rw e
+
+-- word i of the words from start to end
+pub part_at : (words : List ℕ) (start end i : ℕ) → i < end - start → get_or (slice start end words) i 0 ≡ get_or words (start + i) 0
+part_at words start end i h = get_or-drop start (take end words) i 0 ∙ get_or-take end words (start + i) 0 (omega arith)
+
+-- and counted from one side
+module _ (words : List ℕ) (start end i : ℕ) (fits : end ≤ length words) where
+  pub from_start : (from_end : Bool) → from_end ≡ false → i < end - start → get_or (turned from_end (slice start end words)) i 0 ≡ get_or words (start + i) 0
+  from_start from_end e h = rw e (part_at words start end i h)
+
+  pub from-the-end : (from_end : Bool) → from_end ≡ true → i < end - start → get_or (turned from_end (slice start end words)) i 0 ≡ get_or words (end - 1 - i) 0
+  from-the-end from_end e h =
+      let long = length-slice start end words fits in
+      let there : start + (length (slice start end words) - 1 - i) ≡ end - 1 - i = omega arith in
+      rw e (reversed-at (slice start end words) [] i (omega arith) ∙ part_at words start end (length (slice start end words) - 1 - i) (omega arith) ∙ rw there)
 
 map-reverse : (l : List ℕ) → map symbol_of (reverse l) ≡ reverse (map symbol_of l)
 map-reverse l = go l []
@@ -79,6 +108,14 @@ module _ (words : List ℕ) where
     -- checked words have their bodies in rule order
     pub passed-laid : Laid words
     passed-laid = laid words (headed words ((finds-none (head-finds words)).1 passed.head)) ((finds-none (contents-finds words)).1 passed.contents)
+
+    -- .. so the four head words are there
+    pub passed-long : 4 ≤ length words
+    passed-long = passed-laid.headed.present
+
+    -- .. and each body: two words at least, of a run of few
+    pub passed-body : (r : ℕ) → r < count_r words → (entry words r + 2 ≤ body_end words r) × (body_end words r ≤ length words) × (length words ≤ 2564)
+    passed-body r h = (passed-laid.least r h, within words passed-laid r h, short words passed-laid)
 
     front-rules : RulesOf (grammar_of words) (count_r words) left_of (right_words words)
     unfolding grammar_of in_play

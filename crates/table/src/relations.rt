@@ -2,12 +2,14 @@
 // Document 01, "Sets and matrix". # is terminal 0.
 // Row a holds the b that a is equal to, row 64 + a the b that a yields to, and row 128 + b the a that take over b: one array, and not one for each
 // relation, since so each pair adds one mask to one row, whatever it shows.
-ghost use Rattle.std.specs.Prelude.{◌≡◌, ◌+◌, ◌*◌, ◌≤◌, ◌<◌, length, get_or, replicate, MatchResult};
+ghost use Rattle.std.specs.Prelude.{◌≡◌, ◌+◌, ◌*◌, ◌≤◌, ◌<◌, length, map, get_or, replicate, MatchResult};
 ghost use Rattle.laws.specs.Masks.{bit};
-ghost use Rattle.language.specs.Words.{count_r, grammar_of};
+ghost use Rattle.language.specs.Symbols.{symbol_of};
+ghost use Rattle.language.specs.Words.{grammar_of};
 ghost use Rattle.table.specs.SetPasses.{AreSets};
-ghost use Rattle.table.specs.Shown.{Adds, Paired, shown_by, pair_shown};
-ghost use Rattle.table.specs.RelationRows.{Union, shown_in, Seen, Shows, only_of, only_in, RowWritten, RowRefused, Whole, FirstConflict};
+ghost use Rattle.table.specs.Edges.{RightSide};
+ghost use Rattle.table.specs.Shown.{Adds, here, anywhere, Paired, shown_by, pair_shown};
+ghost use Rattle.table.specs.RelationRows.{Union, Seen, Shows, only_of, only_in, RowWritten, RowRefused, Whole, FirstConflict};
 
 use crate::checked::Checked;
 use crate::sets::{Side, View};
@@ -46,6 +48,7 @@ impl<'a> Sets<'a> {
         requires { Paired a b }
         ensures { result ≡ shown_by self.now.left self.now.right a b }
     {
+        // a symbol is a word of document 01, lent by C: below 256 a terminal, from there on a nonterminal
         if 256 <= a {
             return Added {
                 row: 128 + b,
@@ -73,12 +76,12 @@ impl<'a> Sets<'a> {
         rows[shown.row] |= shown.mask;
     }
 
-    // What rule r's right side shows, place by place.
-    fn rule_shows(&self, r: usize, rows: &mut [u64; 192])
-        requires { (r < count_r self.now.grammar.words.now) × (length rows.old ≡ 192) }
-        ensures { Adds (λ k a b. shown_in (grammar_of self.now.grammar.words.now) k a b r) rows.old rows.new }
+    // What a right side shows, place by place. By index: each place asks for the one before and for the one after, which the last has not, so that
+    // `windows(2)` shows too little and `windows(3)` leaves out the last pair.
+    fn right_shows(&self, right: &[u16], rows: &mut [u64; 192])
+        requires { RightSide right.now × (length rows.old ≡ 192) }
+        ensures { Adds (λ k a b. anywhere (here (grammar_of self.now.grammar.words.now) k a b) (map symbol_of right.now)) rows.old rows.new }
     {
-        let right = self.grammar.right(r);
         for i in 1..right.len() {
             let a = right[i - 1] as usize;
             let b = right[i] as usize;
@@ -108,7 +111,7 @@ impl<'a> Sets<'a> {
     {
         let mut rows = self.ends_show();
         for r in 0..self.grammar.rules() {
-            self.rule_shows(r, &mut rows);
+            self.right_shows(self.grammar.right(r), &mut rows);
         }
         rows
     }
@@ -134,7 +137,8 @@ fn has(rows: &[u64; 192], row: usize, t: usize) -> bool
     rows[row] >> t & 1 == 1
 }
 
-// What the table says of a pair of terminals, by its number in the matrix.
+// What the table says of a pair of terminals, by its number in the matrix. The matrix that is lent to a run is C's bytes, any bytes by its contract: reader
+// asks the byte itself.
 #[derive(Clone, Copy)]
 enum Relation {
     Blank = 0,

@@ -2,7 +2,8 @@
 // The right sets mirror the left sets: everything here looks at right sides from their start, or from their end.
 ghost use Rattle.std.specs.Prelude.{◌≡◌, ◌<◌, length, get_or};
 ghost use Rattle.language.specs.Words.{count_r, grammar_of};
-ghost use Rattle.table.specs.Sided.{from_end, sided, turned, side_words};
+ghost use Rattle.table.specs.Sided.{from_end, sided, turned};
+ghost use Rattle.table.specs.Edges.{Front};
 ghost use Rattle.table.specs.SetPasses.{brought, gained, Sound, Members, Changed, Grown};
 
 use crate::checked::Checked;
@@ -25,6 +26,20 @@ impl Side {
             Side::Right => right[right.len() - 1 - i] as usize,
         }
     }
+
+    // What a right side brings to the set of its rule's left side, given the sets so far: its outermost terminal, and all of the set of a
+    // nonterminal before that.
+    fn brought(self, right: &[u16], masks: &[u64; 64]) -> u64
+        requires { Front (turned (from_end self) right.now) }
+        ensures { let seen = turned (from_end self) right.now in result ≡ brought masks.now (get_or seen 0 0) (get_or seen 1 0) }
+    {
+        let near = self.word(right, 0);
+        // a terminal: from 256 on a nonterminal; no enum, since the words are document 01's, lent by C
+        if near < 256 {
+            return 1u64 << near;
+        }
+        1u64 << self.word(right, 1) | masks[near - 256]
+    }
 }
 
 // A grammar whose right sides are seen from one side.
@@ -35,20 +50,6 @@ pub(crate) struct View<'a> {
 }
 
 impl View<'_> {
-    // What rule r brings to the set of its left side, given the sets so far: its outermost terminal, and all of the set of a
-    // nonterminal before that.
-    fn brought(&self, masks: &[u64; 64], r: usize) -> u64
-        requires { r < count_r self.now.grammar.words.now }
-        ensures { let right = side_words self.now.grammar.words.now (from_end self.now.side) r in result ≡ brought masks.now (get_or right 0 0) (get_or right 1 0) }
-    {
-        let right = self.grammar.right(r);
-        let near = self.side.word(right, 0);
-        if near < 256 {
-            return 1u64 << near;
-        }
-        1u64 << self.side.word(right, 1) | masks[near - 256]
-    }
-
     // Rule r brings what it can to the set of its left side: whether that set has changed.
     fn gain(&self, masks: &mut [u64; 64], r: usize) -> bool
         requires { (r < count_r self.now.grammar.words.now) × (length masks.old ≡ 64) }
@@ -57,7 +58,7 @@ impl View<'_> {
     {
         let left = self.grammar.left(r);
         let old = masks[left];
-        let new = old | self.brought(masks, r);
+        let new = old | self.side.brought(self.grammar.right(r), masks);
         masks[left] = new;
         new != old
     }

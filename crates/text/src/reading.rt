@@ -4,7 +4,7 @@ ghost use Rattle.std.specs.Prelude.{◌≡◌, ◌+◌, ◌<◌, ◌≤◌, leng
 ghost use Rattle.laws.specs.Decimals.{is_digit};
 ghost use Rattle.laws.specs.Picks.{pick};
 ghost use Rattle.text.specs.Readings.{read_text};
-ghost use Rattle.text.specs.Feeding.{held, start, in_phase, started, line_ended, opened, longer, full, kept, followed, ended, fed, fed_all, answer_of, finish_of};
+ghost use Rattle.text.specs.Feeding.{held, start, in_phase, started, line_number, line_ended, opened, longer, full, kept, followed, ended, fed, fed_all, answer_of, finish_of};
 ghost use Rattle.text.specs.TextFed.{answer_for, after};
 
 // The line that is being read, by its number.
@@ -13,6 +13,15 @@ pub enum Line {
     Words = 1,
     Tokens = 2,
     Cuts = 3,
+}
+
+impl Line {
+    // Its number.
+    pub fn number(self) -> u32
+        ensures { result ≡ line_number self }
+    {
+        self as u32
+    }
 }
 
 // What stood last in it.
@@ -148,7 +157,8 @@ impl State {
     }
 }
 
-// What has been read of a text: how far, and the numbers of its lines, each line's at the front of its buffer. Any state may stand beside any numbers.
+// What has been read of a text: how far, and the numbers of its lines, each line's at the front of its buffer. There is no heap, so each buffer is an
+// array with its count in the state. Any state may stand beside any numbers: the promises `fed` and `fed_all` are of each, so no invariant bounds it.
 #[derive(Drop)]
 pub struct Held {
     pub state: State,

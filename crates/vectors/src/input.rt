@@ -86,11 +86,12 @@ impl<R: Read> Input<R> {
             return 0;
         }
         let pattern = size.min(back);
-        for word in &mut run[..pattern] {
+        let (first, rest) = run[..size].split_at_mut(pattern);
+        for word in first.iter_mut() {
             *word = self.next_value();
         }
-        for i in pattern..size {
-            run[i] = run[i - pattern];
+        for (word, again) in rest.iter_mut().zip(first.iter().cycle()) {
+            *word = *again;
         }
         size
     }

@@ -131,7 +131,7 @@ impl Row<'_> {
     }
 
     // The schedule of the program `rows`: each chunk is run until it rests, then chunk 0 is joined rightwards, and run until it rests
-    // after each join.
+    // after each join. It stands in rows/src/schedule.rt too: a program is no crate that another can use.
     fn read_row(&mut self, chunks: usize) {
         for chunk in 0..chunks {
             let _ = reader::run(self.words, self.matrix, self.area, chunk, u32::MAX);
@@ -152,7 +152,8 @@ impl Row<'_> {
         self.tell(&mut streams.output, told, sum);
     }
 
-    // The one-call parse into a run of nines.
+    // The one-call parse into a run of nines. It and `report` stay two: a closure for the call and the sum would be lent all of the row but the run,
+    // which is a part of it.
     fn parse<R: Read, W: Write>(&mut self, streams: &mut Streams<R, W>) {
         let Some(run) = clear_run(&mut streams.input, self.out) else {
             return;

@@ -5,7 +5,7 @@ use crate::Streams;
 use crate::shown::{Told, sum_of};
 use std::io::{Read, Write};
 
-// Which of its sets is asked of a nonterminal.
+// Which of its sets is asked of a nonterminal. The crate table has such an enum for itself alone: its public functions are one for each side.
 #[derive(Clone, Copy)]
 pub(crate) enum Side {
     Left,

@@ -17,7 +17,7 @@ fn show_text<W: Write>(output: &mut Output<W>, said: Result<Counts, Line>, held:
     match said {
         Err(line) => {
             output.show(0);
-            output.show(line as u32);
+            output.show(line.number());
         }
         Ok(counts) => {
             output.show(counts.words);

@@ -3,7 +3,7 @@
 -- bodies in rule order, without gaps"; "each right side 1 to 8 symbols".
 -- Rests on language's Words, CheckHead, CheckContents and WordsInRange.
 --
--- Main definitions: Headed, Laid. Main statements: headed, laid; ends_next, ends_last; rises, within, short.
+-- Main definitions: Headed, Laid, Ended. Main statements: headed, laid, ended; ends_next, ends_last; rises, within, short.
 use Rattle.std.specs.Prelude.{◌≡◌, List, ℕ, zero, suc, ◌+◌, ◌-◌, ◌*◌, ◌≤◌, ◌<◌, length}
 use Rattle.std.proofs.Common.{arith, lit<}
 use Rattle.std.proofs.Math.Decide.{dec_lt, ℕ_discrete}
@@ -33,6 +33,13 @@ pub record Laid (words : List ℕ) : Type 0 where
   pub first : entry words 0 ≡ 4 + count_r words
   pub least : (r : ℕ) → r < count_r words → entry words r + 2 ≤ body_end words r
   pub most : (r : ℕ) → r < count_r words → body_end words r ≤ entry words r + 9
+
+-- what tells the end of rule r's body is there: its entry, and the next one where there is a next rule
+abbrev pub Ended : List ℕ → ℕ → Type 0
+Ended words r = (4 + r < length words) × (suc r < count_r words → 5 + r < length words)
+
+pub ended : {words : List ℕ} → Laid words → {r : ℕ} → r < count_r words → Ended words r
+ended l h = (omega (arith, l.present), λ k. omega (arith, l.present))
 
 not-outside : (low high v : ℕ) → (Outside low high v → ⊥) → (low ≤ v) × (v ≤ high)
 not-outside low high v h =

@@ -2,6 +2,8 @@ pub mod Answered
 pub mod Bodies
 pub mod Forms
 pub mod Laid
+pub mod PlacedForms
+pub mod PlacedTwins
 pub mod Places
 pub mod Rules
 pub mod Search

@@ -57,12 +57,10 @@ fn bad_head(words: &[u16], i: usize) -> bool
 fn head(words: &[u16]) -> Result<(), Refusal>
     ensures { result ≡ checked (head_stage ∷ []) words.now }
 {
-    for i in 0..4 {
-        if bad_head(words, i) {
-            return Err(Refusal::Head(i as u32));
-        }
+    match (0..4).find(|i| bad_head(words, *i)) {
+        Some(i) => Err(Refusal::Head(i as u32)),
+        None => Ok(()),
     }
-    Ok(())
 }
 
 // ---- 2 CONTENTS
@@ -89,12 +87,10 @@ fn contents(words: &[u16]) -> Result<(), Refusal>
     requires { 0 < count_r words.now }
     ensures { result ≡ checked (contents_stage ∷ []) words.now }
 {
-    for r in 0..=word(words, 3) {
-        if bad_contents(words, r) {
-            return Err(Refusal::Contents(r as u32));
-        }
+    match (0..word(words, 3) + 1).find(|r| bad_contents(words, *r)) {
+        Some(r) => Err(Refusal::Contents(r as u32)),
+        None => Ok(()),
     }
-    Ok(())
 }
 
 // A right side has two adjacent nonterminals, or no terminal.
@@ -105,6 +101,7 @@ fn bad_form(right: &[u16]) -> bool
     let mut bare = true;
     let mut after = false;
     for w in right {
+        // below 256 a terminal, from there on a nonterminal: no enum, since the words are document 01's, lent by C
         let nonterminal = 256 <= *w;
         if after & nonterminal {
             return true;
@@ -133,8 +130,8 @@ impl<'a> Grammar<'a> {
         self.words[3] as usize
     }
 
-    // Where the body of rule r stands. This stays beside `body_of`, whose tests of bounds cost speed: with them check 5 takes 3.0 ns for two rules,
-    // without 1.6. A type of rule numbers, in place of r below R, is no plainer: it would have to carry its grammar.
+    // Where the body of rule r stands. `body_of`, a public function, asks nothing (docs/DECISIONS.md): it is of any words, and reads an absent one as 0.
+    // Of a grammar no word is absent, and so it is said here. A type of rule numbers, in place of r below R, is no plainer: it would carry its grammar.
     fn body(&self, r: usize) -> Body
         requires { r < count_r self.now.words.now }
         ensures { result ≡ body_at self.now.words.now r }
@@ -180,6 +177,7 @@ impl<'a> Grammar<'a> {
     {
         for r in 0..self.rules() {
             let body = self.body(r);
+            // by number: `Symbol` names the place in the whole run, and the first of a body is its left side
             for p in body.start..body.end {
                 if self.wrong(self.words[p] as usize, p == body.start) {
                     return Err(Refusal::Symbol(p as u32));
@@ -195,12 +193,10 @@ impl<'a> Grammar<'a> {
     pub(crate) fn forms(&self) -> Result<(), Refusal>
         ensures { result ≡ checked (form_stage ∷ []) self.now.words.now }
     {
-        for r in 0..self.rules() {
-            if bad_form(self.right(r)) {
-                return Err(Refusal::Form(r as u32));
-            }
+        match (0..self.rules()).find(|r| bad_form(self.right(*r))) {
+            Some(r) => Err(Refusal::Form(r as u32)),
+            None => Ok(()),
         }
-        Ok(())
     }
 
     // ---- 5 TWIN

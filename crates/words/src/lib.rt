@@ -28,7 +28,8 @@ pub fn check_words(words: &[u16]) -> Result<(), Refusal>
     grammar.twins()
 }
 
-// Where a rule's body stands: the place of its left side, and the place at which it ends.
+// Where a rule's body stands: the place of its left side, and the place at which it ends. No `Range`: the contract of the public `body_of` names
+// this type (`body_at`).
 #[derive(Clone, Copy)]
 pub struct Body {
     pub start: usize,

@@ -1,20 +1,27 @@
--- One byte more fits, since `byte_fits` told so; those past t are a part of the matrix, which `all_are` looks at.
-use Rattle.std.proofs.Common.{◌+◌, ◌*◌, ◌≤◌, eqb, sym, ◌∙◌, arith}
-use Rattle.laws.specs.Looks.{run_more}
-use Rattle.matrix.specs.ByteTests.{byte_at}
-use Rattle.matrix.proofs.MatrixLaw.{byte-here, part-told, row-told}
+-- Each byte up to t fits, since `byte_fits` told so of all, or one does not; those past t are a part of the matrix, which `all_are` looks at.
+use Rattle.std.proofs.Common.{◌≡◌, List, ℕ, Bool, true, false, ◌+◌, ◌*◌, ◌≤◌, get_or, eqb, refl, ◌∙◌, arith, rules}
+use Rattle.std.proofs.lemmas.Iterator.{YieldsList-from_range, cases_from_all}
+use Rattle.matrix.specs.GrammarShape.{byte_fits}
+use Rattle.matrix.proofs.MatrixLaw.{byte-here, part-told, range-passes, range-fails, row-told, row-fit, row-fails}
 use Rattle.matrix.proofs.row_fits.Goals as goal
 
-pub loop-b-preserved : goal.loop-b-preserved
-loop-b-preserved c =
-    let a = c.args in
-    let l = c.loop-b in
-    let low : l.b ≤ a.t = omega (arith, c.loop-b-test.true) in
-    let here = byte-here a.t a.matrix.now a.a l.b (omega arith) ∙ sym (c.byte_fits.ensures a.t c.requires.0 low) ∙ c.if-not-byte_fits.false in
-    λ v i j. run_more (byte_at a.t a.matrix.now) (64 * a.a) (64 * a.a + l.b) l.invariant here v i (omega arith)
+-- what `byte_fits` told of byte b of row a
+abbrev Fits : List ℕ → (t a : ℕ) → Bool → ℕ → Type 0
+Fits matrix t a fits b = b ≤ t → byte_fits t a b (get_or matrix (64 * a + b) 0) ≡ fits
 
-pub returns : goal.returns
-returns c =
+pub returns-then-all : goal.returns-then-all
+returns-then-all c =
     let a = c.args in
-    row-told a.t a.matrix.now a.a c.all_are.result c.requires.1 (λ v i j. c.loop-b.invariant v i (omega arith))
+    let told = cases_from_all _ _ c.all.result (Fits a.matrix.now a.t a.a true) (Fits a.matrix.now a.t a.a false) c.all.ensures.ran (YieldsList-from_range 0 (a.t + 1) (a.t + 1) refl (omega arith))
+    (λ x q k. (search rules, λ low. search rules)) (λ x q k. λ low. search rules) in
+    row-told a.t a.matrix.now a.a c.all_are.result c.requires.1
+    (row-fit a.t a.matrix.now a.a (λ b h. byte-here a.t a.matrix.now a.a b (omega arith) ∙ range-passes (Fits a.matrix.now a.t a.a true) (Fits a.matrix.now a.t a.a false) (a.t + 1) c.all.result told c.if-all.true b h (omega arith)))
     (rw c.all_are.ensures (part-told (λ x. eqb x 0) a.matrix.now (64 * a.a + (a.t + 1)) (64 * a.a + 64) (omega arith)))
+
+pub returns-else-all : goal.returns-else-all
+returns-else-all c =
+    let a = c.args in
+    let told = cases_from_all _ _ c.all.result (Fits a.matrix.now a.t a.a true) (Fits a.matrix.now a.t a.a false) c.all.ensures.ran (YieldsList-from_range 0 (a.t + 1) (a.t + 1) refl (omega arith))
+    (λ x q k. (search rules, λ low. search rules)) (λ x q k. λ low. search rules) in
+    let one = range-fails (Fits a.matrix.now a.t a.a true) (Fits a.matrix.now a.t a.a false) (a.t + 1) c.all.result told c.if-all.false in
+    row-fails a.t a.matrix.now a.a one.0 c.all.result (omega (arith, one.1)) (byte-here a.t a.matrix.now a.a one.0 (omega (arith, one.1)) ∙ one.2 (omega (arith, one.1))) c.if-all.false

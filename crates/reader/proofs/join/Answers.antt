@@ -10,17 +10,12 @@ use Rattle.moving.specs.ReadWords.{live_after}
 use Rattle.moving.specs.Searches.{found_of}
 use Rattle.reader.proofs.join.Goals as goal
 
-pub returns-then-not-in_shape-clause-answers : goal.returns-then-not-in_shape-clause-answers
-returns-then-not-in_shape-clause-answers c =
+pub returns-then-not-in_shape : goal.returns-then-not-in_shape
+returns-then-not-in_shape c =
     let a = c.args in
     let bad : in_shape a.words.now a.matrix.now a.area.now ≡ false = sym c.in_shape.ensures ∙ c.if-not-in_shape.true in
-    (join-bad a.words.now a.matrix.now a.area.now a.chunk bad).0
-
-pub returns-then-not-in_shape-clause-leaves : goal.returns-then-not-in_shape-clause-leaves
-returns-then-not-in_shape-clause-leaves c =
-    let a = c.args in
-    let bad : in_shape a.words.now a.matrix.now a.area.now ≡ false = sym c.in_shape.ensures ∙ c.if-not-in_shape.true in
-    (join-bad a.words.now a.matrix.now a.area.now a.chunk bad).1
+    let made = join-bad a.words.now a.matrix.now a.area.now a.chunk bad in
+    record { answers = made.0; leaves = made.1 }
 
 pub live-requires : goal.live-requires
 live-requires c =
@@ -29,21 +24,14 @@ live-requires c =
     let shape : in_shape a.words.now a.matrix.now a.area.now ≡ true = sym c.in_shape.ensures ∙ c.if-not-in_shape.false in
     table-there (there a.words.now a.matrix.now a.area.now a.chunk low shape)
 
-pub returns-in_default-clause-answers : goal.returns-in_default-clause-answers
-returns-in_default-clause-answers c =
+pub returns-in_default : goal.returns-in_default
+returns-in_default c =
     let a = c.args in
     let low : get_or a.area.now 2 0 < 65536 = search rules in
     let shape : in_shape a.words.now a.matrix.now a.area.now ≡ true = sym c.in_shape.ensures ∙ c.if-not-in_shape.false in
     let gone : live_in a.area.now a.chunk ≡ false = rw c.in_default.is at c.live.ensures in
-    (join-gone a.words.now a.matrix.now a.area.now a.chunk low shape gone).0
-
-pub returns-in_default-clause-leaves : goal.returns-in_default-clause-leaves
-returns-in_default-clause-leaves c =
-    let a = c.args in
-    let low : get_or a.area.now 2 0 < 65536 = search rules in
-    let shape : in_shape a.words.now a.matrix.now a.area.now ≡ true = sym c.in_shape.ensures ∙ c.if-not-in_shape.false in
-    let gone : live_in a.area.now a.chunk ≡ false = rw c.in_default.is at c.live.ensures in
-    (join-gone a.words.now a.matrix.now a.area.now a.chunk low shape gone).1
+    let made = join-gone a.words.now a.matrix.now a.area.now a.chunk low shape gone in
+    record { answers = made.0; leaves = made.1 }
 
 pub join_chunks-requires : goal.join_chunks-requires
 join_chunks-requires c =
@@ -58,8 +46,8 @@ join_chunks-requires c =
     let both = and_both (rests_in a.area.now a.chunk) (rests_in a.area.now d) (rw (c.at_rest.ensures, c.at_rest-in-Some-next_live.ensures, n.0, k.0, k.1) at c.if-at_rest.true) in
     join-can a.words.now a.matrix.now a.area.now a.chunk low shape alive d follow both.0 both.1
 
-pub returns-then-at_rest-clause-answers : goal.returns-then-at_rest-clause-answers
-returns-then-at_rest-clause-answers c =
+pub returns-then-at_rest : goal.returns-then-at_rest
+returns-then-at_rest c =
     let a = c.args in
     let low : get_or a.area.now 2 0 < 65536 = search rules in
     let shape : in_shape a.words.now a.matrix.now a.area.now ≡ true = sym c.in_shape.ensures ∙ c.if-not-in_shape.false in
@@ -69,23 +57,11 @@ returns-then-at_rest-clause-answers c =
     let d = c.in-Some-next_live.right.c in
     let follow : Some d ≡ found_of (live_after a.area.now a.chunk) = rw (k.0, k.1) at n.1 in
     let both = and_both (rests_in a.area.now a.chunk) (rests_in a.area.now d) (rw (c.at_rest.ensures, c.at_rest-in-Some-next_live.ensures, n.0, k.0, k.1) at c.if-at_rest.true) in
-    (join-made a.words.now a.matrix.now a.area.now a.chunk low shape alive d follow both.0 both.1).0
+    let made = join-made a.words.now a.matrix.now a.area.now a.chunk low shape alive d follow both.0 both.1 in
+    record { answers = made.0; leaves = c.join_chunks.ensures ∙ made.1 }
 
-pub returns-then-at_rest-clause-leaves : goal.returns-then-at_rest-clause-leaves
-returns-then-at_rest-clause-leaves c =
-    let a = c.args in
-    let low : get_or a.area.now 2 0 < 65536 = search rules in
-    let shape : in_shape a.words.now a.matrix.now a.area.now ≡ true = sym c.in_shape.ensures ∙ c.if-not-in_shape.false in
-    let k = c.in-Some.ensures in
-    let alive : live_in a.area.now a.chunk ≡ true = k.2 in
-    let n = c.in-Some-next_live.ensures in
-    let d = c.in-Some-next_live.right.c in
-    let follow : Some d ≡ found_of (live_after a.area.now a.chunk) = rw (k.0, k.1) at n.1 in
-    let both = and_both (rests_in a.area.now a.chunk) (rests_in a.area.now d) (rw (c.at_rest.ensures, c.at_rest-in-Some-next_live.ensures, n.0, k.0, k.1) at c.if-at_rest.true) in
-    c.join_chunks.ensures ∙ (join-made a.words.now a.matrix.now a.area.now a.chunk low shape alive d follow both.0 both.1).1
-
-pub returns-else-at_rest-clause-answers : goal.returns-else-at_rest-clause-answers
-returns-else-at_rest-clause-answers c =
+pub returns-else-at_rest : goal.returns-else-at_rest
+returns-else-at_rest c =
     let a = c.args in
     let low : get_or a.area.now 2 0 < 65536 = search rules in
     let shape : in_shape a.words.now a.matrix.now a.area.now ≡ true = sym c.in_shape.ensures ∙ c.if-not-in_shape.false in
@@ -95,37 +71,16 @@ returns-else-at_rest-clause-answers c =
     let d = c.in-Some-next_live.right.c in
     let follow : Some d ≡ found_of (live_after a.area.now a.chunk) = rw (k.0, k.1) at n.1 in
     let moving = rw (c.at_rest.ensures, c.at_rest-in-Some-next_live.ensures, n.0, k.0, k.1) at c.if-at_rest.false in
-    (join-moving a.words.now a.matrix.now a.area.now a.chunk low shape alive d follow moving).0
+    let made = join-moving a.words.now a.matrix.now a.area.now a.chunk low shape alive d follow moving in
+    record { answers = made.0; leaves = made.1 }
 
-pub returns-else-at_rest-clause-leaves : goal.returns-else-at_rest-clause-leaves
-returns-else-at_rest-clause-leaves c =
-    let a = c.args in
-    let low : get_or a.area.now 2 0 < 65536 = search rules in
-    let shape : in_shape a.words.now a.matrix.now a.area.now ≡ true = sym c.in_shape.ensures ∙ c.if-not-in_shape.false in
-    let k = c.in-Some.ensures in
-    let alive : live_in a.area.now a.chunk ≡ true = k.2 in
-    let n = c.in-Some-next_live.ensures in
-    let d = c.in-Some-next_live.right.c in
-    let follow : Some d ≡ found_of (live_after a.area.now a.chunk) = rw (k.0, k.1) at n.1 in
-    let moving = rw (c.at_rest.ensures, c.at_rest-in-Some-next_live.ensures, n.0, k.0, k.1) at c.if-at_rest.false in
-    (join-moving a.words.now a.matrix.now a.area.now a.chunk low shape alive d follow moving).1
-
-pub returns-in_default-next_live-clause-answers : goal.returns-in_default-next_live-clause-answers
-returns-in_default-next_live-clause-answers c =
+pub returns-in_default-next_live : goal.returns-in_default-next_live
+returns-in_default-next_live c =
     let a = c.args in
     let low : get_or a.area.now 2 0 < 65536 = search rules in
     let shape : in_shape a.words.now a.matrix.now a.area.now ≡ true = sym c.in_shape.ensures ∙ c.if-not-in_shape.false in
     let k = c.in-Some.ensures in
     let alive : live_in a.area.now a.chunk ≡ true = k.2 in
     let alone : None ≡ found_of (live_after a.area.now a.chunk) = rw (c.in_default-next_live.is, k.0, k.1) at c.next_live.ensures in
-    (join-alone a.words.now a.matrix.now a.area.now a.chunk low shape alive alone).0
-
-pub returns-in_default-next_live-clause-leaves : goal.returns-in_default-next_live-clause-leaves
-returns-in_default-next_live-clause-leaves c =
-    let a = c.args in
-    let low : get_or a.area.now 2 0 < 65536 = search rules in
-    let shape : in_shape a.words.now a.matrix.now a.area.now ≡ true = sym c.in_shape.ensures ∙ c.if-not-in_shape.false in
-    let k = c.in-Some.ensures in
-    let alive : live_in a.area.now a.chunk ≡ true = k.2 in
-    let alone : None ≡ found_of (live_after a.area.now a.chunk) = rw (c.in_default-next_live.is, k.0, k.1) at c.next_live.ensures in
-    (join-alone a.words.now a.matrix.now a.area.now a.chunk low shape alive alone).1
+    let made = join-alone a.words.now a.matrix.now a.area.now a.chunk low shape alive alone in
+    record { answers = made.0; leaves = made.1 }

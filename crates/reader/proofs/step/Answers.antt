@@ -19,16 +19,9 @@ returns-in_err-run-clause-leaves c =
     let made = rw c.in_err-run.was at (step-by-run a.words.now a.matrix.now a.area.now a.chunk r.answers r.leaves) in
     made.1
 
-pub returns-clause-answers : goal.returns-clause-answers
-returns-clause-answers c =
+pub returns : goal.returns
+returns c =
     let a = c.args in
     let r = c.run.ensures in
     let made = rw c.in_ok-run.was at (step-by-run a.words.now a.matrix.now a.area.now a.chunk r.answers r.leaves) in
-    made.0
-
-pub returns-clause-leaves : goal.returns-clause-leaves
-returns-clause-leaves c =
-    let a = c.args in
-    let r = c.run.ensures in
-    let made = rw c.in_ok-run.was at (step-by-run a.words.now a.matrix.now a.area.now a.chunk r.answers r.leaves) in
-    made.1
+    record { answers = made.0; leaves = made.1 }

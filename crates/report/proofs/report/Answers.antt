@@ -8,8 +8,8 @@ returns-then-not-in_shape c =
     let p = refused-state c.args.words.now c.args.matrix.now c.args.area.now c.args.out.now c.in_shape.ensures c.if-not-in_shape.true in
     record { value = p.0; out_after = p.1 }
 
-pub outcome-requires : goal.outcome-requires
-outcome-requires c = ready c.args.words.now c.args.matrix.now c.args.area.now (omega (arith, c.type_inv.area 2)) c.in_shape.ensures c.if-not-in_shape.false
+pub invariant_of-outcome : goal.invariant_of-outcome
+invariant_of-outcome c = record { reportable = ready c.args.words.now c.args.matrix.now c.args.area.now (omega (arith, c.type_inv.area 2)) c.in_shape.ensures c.if-not-in_shape.false }
 
 pub returns : goal.returns
 returns c =

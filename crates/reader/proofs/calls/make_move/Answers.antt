@@ -1,5 +1,5 @@
 -- `calls::make_move`: the words call for a move, that move is made, and it is counted.
-use Rattle.std.proofs.Common.{◌+◌, ℕ, List, sym, ap, subst, ◌∙◌, arith}
+use Rattle.std.proofs.Common.{ℕ, List, sym, ap, subst, ◌∙◌, arith}
 use Rattle.moving.specs.MoveWords.{tick_words}
 use Rattle.moving.specs.Moved.{Moved, counted}
 use Rattle.moving.specs.OneMove.{can-stick}
@@ -19,8 +19,3 @@ returns-clause-moved c =
     subst (λ (l : List ℕ). Moved a.words.now a.matrix.now (settled a.area.now a.c a.hand) a.c l)
     (sym (r.0 ∙ ap tick_words e.0 ∙ counted (settled a.area.now a.c a.hand) a.c c.next_move-next.result))
     c.next_move-next.ensures.leaves
-
-pub returns-clause-holding : goal.returns-clause-holding
-returns-clause-holding c =
-    let e = c.moved-after.ensures in
-    ((settled-counted e.result_after.1).1, ap (λ (n : ℕ). n + 1) e.result_after.2, e.topped)

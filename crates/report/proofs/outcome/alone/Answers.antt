@@ -1,10 +1,13 @@
--- A row of the table more.
-use Rattle.std.proofs.Common.{◌≡◌, ◌∙◌, ◌+◌, ◌*◌, get_or, eq-eqb, arith}
-use Rattle.report.proofs.OutcomeLaw.{none-step}
+-- Each chunk from 1 on is looked at.
+use Rattle.std.proofs.Common.{rules, tests, ◌∙◌, ◌+◌, ◌*◌, ◌-◌, get_or, eqb, refl}
+use Rattle.std.proofs.lemmas.Iterator.{YieldsList-from_range}
+use Rattle.std.proofs.lemmas.Iterator.Search.{all_from_yields_List}
+use Rattle.report.proofs.OutcomeLaw.{none-alive}
 use Rattle.report.proofs.outcome.alone.Goals as goal
 
-pub loop-chunk-preserved : goal.loop-chunk-preserved
-loop-chunk-preserved c =
-    let i = 5 + 5 * c.loop-chunk.chunk in
-    let next : 5 + 5 * (c.loop-chunk.chunk + 1) ≡ i + 5 = omega arith in
-    rw next (c.loop-chunk.invariant ∙ none-step c.args.area.now i c.loop-chunk.chunk c.args.count c.loop-chunk-test.true ∙ rw (eq-eqb (get_or c.args.area.now i 0) 0 c.if-area-chunk-ne0.false))
+pub returns : goal.returns
+returns c =
+    let words = c.args.area.now in
+    let others = c.args.count - 1 in
+    all_from_yields_List (λ chunk. eqb (get_or words (5 + 5 * chunk) 0) 0) _ _ c.all.result c.all.ensures.ran (YieldsList-from_range 1 c.args.count others refl refl) (λ x b q k. search (rules, tests))
+    ∙ none-alive words others 1 10 refl

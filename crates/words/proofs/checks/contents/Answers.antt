@@ -1,20 +1,26 @@
--- The first bad entry is found, or R; past R there is none.
-use Rattle.std.proofs.Common.{◌+◌, suc, sym, ◌∙◌, arith, Ok}
+-- The first bad entry is found, or R where the last body is bad, or none is.
+use Rattle.std.proofs.Common.{◌≡◌, true, false, ◌+◌, suc, refl, arith, rules, tests, Ok}
+use Rattle.std.proofs.lemmas.Iterator.{first_from_Range}
 use Rattle.refusals.specs.declared.Refusal.TheVariants.{Contents}
 use Rattle.language.specs.CheckContents.{bad_contents}
 use Rattle.language.specs.Words.{count_r}
-use Rattle.words.specs.Search.{clear-more, found_at, found_nowhere}
+use Rattle.words.specs.Search.{Found, find-some, find-none}
 use Rattle.words.proofs.checks.contents.Goals as goal
 
-pub returns-then-bad_contents : goal.returns-then-bad_contents
-returns-then-bad_contents c =
+pub overflow_cast-result : goal.overflow_cast-result
+overflow_cast-result c =
     let words = c.args.words.now in
-    let l = c.loop-r in
-    found_at (bad_contents words) Contents (Ok tt) (suc (count_r words)) l.r (omega arith) l.invariant (sym c.bad_contents.ensures ∙ c.if-bad_contents.true)
+    let found : Found (bad_contents words) _ c.find.result = first_from_Range _ _ _ _ (λ k. bad_contents words k ≡ true) (λ k. bad_contents words k ≡ false) c.find.ensures.ran (λ x q k. search (rules, tests)) (λ x q k. (search rules, search (rules, tests))) in
+    omega (arith, (find-some (bad_contents words) (bad_contents words) _ _ refl (λ k h. refl) Contents (Ok tt) found c.in-Some.r c.in-Some.is).0)
 
-pub returns-else-bad_contents : goal.returns-else-bad_contents
-returns-else-bad_contents c =
+pub returns-in-Some : goal.returns-in-Some
+returns-in-Some c =
     let words = c.args.words.now in
-    let l = c.loop-r in
-    found_nowhere (bad_contents words) Contents (Ok tt) (suc (count_r words)) (l.r + 1) (omega arith)
-    (clear-more (bad_contents words) l.r l.invariant (sym c.bad_contents.ensures ∙ c.if-bad_contents.false))
+    let found : Found (bad_contents words) (c.word.result + 1) c.find.result = first_from_Range _ _ _ _ (λ k. bad_contents words k ≡ true) (λ k. bad_contents words k ≡ false) c.find.ensures.ran (λ x q k. search (rules, tests)) (λ x q k. (search rules, search (rules, tests))) in
+    (find-some (bad_contents words) (bad_contents words) (suc (count_r words)) (c.word.result + 1) (omega (arith, c.word.ensures.is)) (λ k h. refl) Contents (Ok tt) found c.in-Some.r c.in-Some.is).1
+
+pub returns-in-None : goal.returns-in-None
+returns-in-None c =
+    let words = c.args.words.now in
+    let found : Found (bad_contents words) (c.word.result + 1) c.find.result = first_from_Range _ _ _ _ (λ k. bad_contents words k ≡ true) (λ k. bad_contents words k ≡ false) c.find.ensures.ran (λ x q k. search (rules, tests)) (λ x q k. (search rules, search (rules, tests))) in
+    find-none (bad_contents words) (bad_contents words) (suc (count_r words)) (c.word.result + 1) (omega (arith, c.word.ensures.is)) (λ k h. refl) Contents (Ok tt) found c.in-None.is

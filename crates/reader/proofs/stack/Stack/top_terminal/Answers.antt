@@ -1,14 +1,11 @@
 -- `Stack::top_terminal`: a block whose word is a terminal's is the topmost one; past a nonterminal's the search goes on; with no block left there is none.
-use Rattle.std.proofs.Common.{sym, ap, ◌∙◌, refl, arith}
+use Rattle.std.proofs.Common.{sym, ap, ◌∙◌, arith}
 use Rattle.laws.specs.Tests.{leb-true, leb-false}
 use Rattle.machine.specs.Entries.{top_terminal}
 use Rattle.moving.specs.OnStack.{stack-ends}
 use Rattle.moving.specs.Searches.{found_of}
-use Rattle.moving.specs.Walks.{down-begins, down-none, top-found, top-more}
+use Rattle.moving.specs.Walks.{down-none, top-found, top-more}
 use Rattle.reader.proofs.stack.Stack.top_terminal.Goals as goal
-
-pub loop-rest-init : goal.loop-rest-init
-loop-rest-init c = (refl, refl, λ stack h. down-begins _ top_terminal h)
 
 pub returns-then-word-lt256-clause-top : goal.returns-then-word-lt256-clause-top
 returns-then-word-lt256-clause-top c =

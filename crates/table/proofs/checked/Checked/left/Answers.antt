@@ -1,22 +1,17 @@
 -- The body is in the run, and its first word is a nonterminal.
 use Rattle.std.proofs.Common.{arith, false}
 use Rattle.words.specs.Bodies.{at_start}
-use Rattle.words.specs.Laid.{within, short}
-use Rattle.table.specs.Sided.{passed-laid, side-rules}
+use Rattle.table.specs.Sided.{passed-body, side-rules}
 use Rattle.table.specs.SetPasses.{left-low}
 use Rattle.table.proofs.checked.Checked.left.Goals as goal
 
 pub offset_bounds-self-body_of : goal.offset_bounds-self-body_of
 offset_bounds-self-body_of c =
-    let words = c.args.self.now.words.now in
-    let l = passed-laid words c.args.self.now.passed in
-    omega (arith, at_start c.body_of.ensures, l.least c.args.r c.requires, within words l c.args.r c.requires, short words l)
+    omega (arith, at_start c.body_of.ensures, passed-body c.args.self.now.words.now c.args.self.now.passed c.args.r c.requires)
 
 pub bounds-self-body_of : goal.bounds-self-body_of
 bounds-self-body_of c =
-    let words = c.args.self.now.words.now in
-    let l = passed-laid words c.args.self.now.passed in
-    omega (arith, at_start c.body_of.ensures, l.least c.args.r c.requires, within words l c.args.r c.requires)
+    omega (arith, at_start c.body_of.ensures, passed-body c.args.self.now.words.now c.args.self.now.passed c.args.r c.requires)
 
 pub returns-clause-low : goal.returns-clause-low
 returns-clause-low c =
