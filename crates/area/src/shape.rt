@@ -366,6 +366,7 @@ impl Lent<'_> {
     {
         let tokens = self.tokens as usize;
         let count = self.area[1] as usize;
+        // as reader's `moves_of`: a public function asks nothing, and would test that these words are there
         let low = self.area[2] as usize;
         let high = self.area[3] as usize;
         low + 65536 * high + walk.potential() <= times(tokens, count) + tokens + 4 * count - 2

@@ -1,6 +1,7 @@
 // The static library: the functions of the crate grugalash as a program in C or Rust links them, declared in include/grugalash.h. A run of
 // words or bytes crosses as an address and a length. Each one is grugalash's function of its name, and promises the same:
-// a crate is a library or a static library, so the C interface needs each export in both.
+// a crate is a library or a static library, so the C interface needs each export in both,
+// with each run by itself and the two sides of a set under two names, as there.
 #![tactic(auto)]
 
 ghost use Rattle.std.specs.Prelude.{◌≡◌, length};

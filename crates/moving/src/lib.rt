@@ -16,7 +16,7 @@ pub struct Hand {
     pub moves: u32,
     pub base: usize,
     // 256 where it has none. As an Option<u16> it takes 6 to 9 instructions a token and 2 to 10 % of time more, as an Option<usize> 18 to 32 % of time
-    // (docs/BENCH.md, "Tried and left out"): the library is to be as fast as C by hand, the first goal there, from which both take it farther.
+    // (docs/BENCH.md, "Tried and left out"), against the project's rule that the library be as fast as C by hand.
     pub top: u32,
 }
 

@@ -11,6 +11,7 @@ use refusals::{Refusal, Report};
 pub(crate) fn read(words: &[u16], tokens: &[u16], area: &mut [u16]) -> Result<(), Refusal>
     ensures { Read words.now tokens.now area.old result area.new }
 {
+    // of a fixed size: there is no heap
     let mut matrix = [0u8; 4096];
     table::load(words, &mut matrix)?;
     reader::read_through(words, &matrix, tokens, area)
@@ -36,6 +37,7 @@ fn outcome(area: &[u16], out: &mut [u16]) -> Result<Report, Refusal>
     }
     let made = 18 + 4 * (area[0] as usize);
     out[..size].copy_from_slice(&area[made..made + size]);
+    // as reader's `moves_of`: a public function asks nothing, and would test that these words are there
     let moves = (area[2] as u32) + 65536 * (area[3] as u32);
     Ok(Report {
         entries: count,

@@ -51,7 +51,7 @@ impl<'a> Stack<'a> {
         self.head - self.area[self.base + 4 * self.head - 1] as usize
     }
 
-    // Word k of its topmost symbol's block.
+    // Word k of its topmost symbol's block (by its number: see `moves::slot_word`).
     fn top_word(self, k: usize) -> u16
         requires { (self.from < self.head) × (k < 4) }
         ensures { result ≡ slot_word self.entry.area.now (start_slot self.entry.area.now self.entry.head) k }

@@ -48,8 +48,7 @@ impl Reading<'_> {
             return Err(Refusal::NoRoom(3 * count));
         }
         self.write_report(count as usize, out);
-        // The count's low and high word, as parse, reader and area have it too: one function for them would be public, in a crate below the four,
-        // with a contract that says this line again.
+        // as reader's `moves_of`: a public function asks nothing, and would test that these words are there
         let moves = (self.area[2] as u32) + 65536 * (self.area[3] as u32);
         Ok(Report {
             entries: count,

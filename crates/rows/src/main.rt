@@ -15,8 +15,8 @@ use std::io;
 use std::io::{Read, Write};
 use text::reading::{Counts, Held, Line};
 
-// The row of these lines: what it gives is written. The buffers are what a row of n = 1,024 tokens in C = 64 chunks can need: an area
-// of 7n + 5C + 13 words, a report of 3n words, and 18 bytes an entry of the answer and 48 for its first line.
+// The row of these lines: what it gives is written. The buffers, of fixed sizes since there is no heap, are what a row of n = 1,024
+// tokens in C = 64 chunks can need: an area of 7n + 5C + 13 words, a report of 3n words, and 18 bytes an entry of the answer and 48 for its first line.
 fn answer_row<W: Write>(
     output: &mut W,
     words: &[u16],

@@ -12,7 +12,7 @@ use refusals::{Refusal, Report};
 use std::io;
 use std::io::Write;
 
-// `text L`.
+// `text L`, in a buffer of a fixed size: there is no heap.
 pub(crate) fn write_text<W: Write>(output: &mut W, line: u32) -> io::Result<()>
     ensures { OnOk result (Appends (W.contents output.old) (W.contents output.new) (text_line line)) }
 {

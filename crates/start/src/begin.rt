@@ -97,6 +97,7 @@ fn write_slots(area: &mut [u16], tokens: &[u16], base: usize)
     ensures { area.new ≡ sets area.old base (start_slots tokens.now ++ zeros (3 * length tokens.now)) }
 {
     write_slot(area, base, 0);
+    // by their places, as the rows in `write_table`: std does not say what the slice of `as_chunks_mut` ends as
     for (i, token) in tokens.iter().enumerate() {
         write_slot(area, base + 4 + 4 * i, *token);
     }

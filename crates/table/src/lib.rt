@@ -20,6 +20,7 @@ pub fn load(words: &[u16], matrix: &mut [u8]) -> Result<(), Refusal>
     ensures bytes { matrix.new ≡ load_bytes words.now matrix.old }
 {
     let grammar = Checked::new(words)?;
+    // by value, filled and then copied: document 01's form
     let mut table = [0u8; 4096];
     relations::write_matrix(grammar, &mut table)?;
     if matrix.len() < 4096 {

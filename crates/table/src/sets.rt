@@ -50,7 +50,7 @@ pub(crate) struct View<'a> {
 }
 
 impl View<'_> {
-    // Rule r brings what it can to the set of its left side: whether that set has changed.
+    // Rule r, below R as in checked.rt, brings what it can to the set of its left side: whether that set has changed.
     fn gain(&self, masks: &mut [u64; 64], r: usize) -> bool
         requires { (r < count_r self.now.grammar.words.now) × (length masks.old ≡ 64) }
         ensures is { masks.new ≡ gained self.now.grammar.words.now (from_end self.now.side) masks.old r }

@@ -2,6 +2,7 @@
 // first, made by tools/call_vectors.py from the reference reader, and so is what it must write. A case is its kind and what its kind
 // asks; kind 6 is a grammar's words, under which the cases of kinds 0 to 5 after it stand. A read that fails ends the cases as the input's
 // end does, and after a write that fails nothing more is written; the program then ends with the error of that read, or else of that write.
+// Each buffer of a case is of a fixed size: there is no heap.
 #![tactic(auto)]
 
 mod buffered;
