@@ -17,6 +17,17 @@ pub(crate) fn read(words: &[u16], tokens: &[u16], area: &mut [u16]) -> Result<()
     reader::read_through(words, &matrix, tokens, area)
 }
 
+// The words of one run put in at the places of another of their number. Word by word, and apart from report's: by `copy_from_slice` the library for C
+// would need `memmove`, which it needs nowhere else, and a public function asks nothing (docs/DECISIONS.md).
+fn put_words(from: &[u16], to: &mut [u16])
+    requires { length to.old ≡ length from.now }
+    ensures { to.new ≡ from.now }
+{
+    for (i, word) in from.iter().enumerate() {
+        to[i] = *word;
+    }
+}
+
 // The answer of a row at rest, whose report is written where there is one and room for it: its reductions stand in order. Apart from report's
 // `outcome`: as a public function that asks nothing (docs/DECISIONS.md) it would first test what is proved here, and then look through the entries,
 // which takes a tenth of the time of a parse.
@@ -36,7 +47,7 @@ fn outcome(area: &[u16], out: &mut [u16]) -> Result<Report, Refusal>
         return Err(Refusal::NoRoom(3 * count));
     }
     let made = 18 + 4 * (area[0] as usize);
-    out[..size].copy_from_slice(&area[made..made + size]);
+    put_words(&area[made..made + size], &mut out[..size]);
     // as reader's `moves_of`: a public function asks nothing, and would test that these words are there
     let moves = (area[2] as u32) + 65536 * (area[3] as u32);
     Ok(Report {

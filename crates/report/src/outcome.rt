@@ -33,7 +33,7 @@ impl Reading<'_> {
         let chunks = self.area[1] as usize;
         let made = 5 + 5 * chunks + 4 * (tokens + 2);
         let run = &mut out[..3 * count];
-        run.copy_from_slice(&self.area[made..made + 3 * count]);
+        order::put_words(&self.area[made..made + 3 * count], run);
         order::put_in_order(run);
     }
 

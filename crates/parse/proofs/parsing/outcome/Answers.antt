@@ -22,6 +22,6 @@ returns c =
     let a = c.args in
     let rests = c.if-status-ge17.false in
     let full = at_rest a.area.now (is-alone c.requires) refl rests (c.requires.ended rests) in
-    let report = ap (λ l. l ++ drop (3 * get_or a.area.now 4 0) a.out.now) (c.copy_from_slice.ensures.after ∙ written c.requires rests) in
+    let report = ap (λ l. l ++ drop (3 * get_or a.area.now 4 0) a.out.now) (c.put_words.ensures ∙ written c.requires rests) in
     let p = room a.area.now a.out.now full c.if-out-size.false refl report in
     record { value = p.0; out_after = p.1 }
