@@ -1,7 +1,7 @@
 // Checks 1 to 5 of the grammar words, each over the whole grammar. Document 01, "The grammar words" and "Refusal numbers".
 // For each check a test of one candidate (a head word, an entry, a word place, a rule), and a search for the first that fails.
 // Words that pass 1 and 2 are a `Grammar`, of which 3 to 5 are asked.
-ghost use Rattle.std.specs.Prelude.{◌≡◌, [], ◌∷◌, ◌+◌, ◌≤◌, ◌<◌, map, MatchResult};
+ghost use Rattle.std.specs.Prelude.{◌≡◌, ◌↔◌, true, [], ◌∷◌, ◌+◌, ◌≤◌, ◌<◌, map, MatchResult};
 ghost use Rattle.language.specs.Words.{count_r, right_words, outside};
 ghost use Rattle.language.specs.Symbols.{symbol_of};
 ghost use Rattle.language.specs.Stages.{checked};
@@ -112,6 +112,13 @@ fn bad_form(right: &[u16]) -> bool
     bare
 }
 
+// Two right sides are the same: as long, and no word differs.
+fn same(one: &[u16], other: &[u16]) -> bool
+    ensures { (result ≡ true) ↔ (one.now ≡ other.now) }
+{
+    one.len() == other.len() && (0..one.len()).all(|i| one[i] == other[i])
+}
+
 impl<'a> Grammar<'a> {
     // Checks 1 and 2: the words, laid as they say.
     pub(crate) fn new(words: &'a [u16]) -> Result<Self, Refusal>
@@ -208,7 +215,7 @@ impl<'a> Grammar<'a> {
         for later in 0..self.rules() {
             let right = self.right(later);
             for earlier in 0..later {
-                if self.right(earlier) == right {
+                if same(self.right(earlier), right) {
                     return Err(Refusal::Twin(later as u32));
                 }
             }
