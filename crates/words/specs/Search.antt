@@ -4,7 +4,7 @@
 --
 -- Main definitions: Found; of laws, Clear.
 -- Main statements: found_at, found_nowhere (what is answered where the search finds that), fails-below, clear-below (a search that answers yes
--- or no), find-some, find-none (std's `find` over a range).
+-- or no), find-within, find-some, find-none (std's `find` over a range).
 use Rattle.std.specs.Prelude.{◌≡◌, Bool, true, false, ℕ, ◌≤◌, ◌<◌, Some, None, Err, MatchOption}
 use Rattle.std.specs.Prelude as Prelude
 use Rattle.std.proofs.Common.{sym, ap, subst, ◌∙◌, arith}
@@ -34,6 +34,13 @@ module _ (fails : ℕ → Bool) where
 -- what std's `find` over 0..m answers: the least place that passes a test, or none
 abbrev pub Found : (ℕ → Bool) → ℕ → Prelude.Option ℕ → Type 0
 Found test m r = MatchOption r ((k : ℕ) → 0 ≤ k → k < m → test k ≡ false) (λ i. (0 ≤ i) × (i < m) × (test i ≡ true) × ((k : ℕ) → 0 ≤ k → k < i → test k ≡ false))
+
+-- what it finds below m is the first failure, wherever m stands up to n
+pub find-within : (fails : ℕ → Bool) (refusal : ℕ → Refusal) (later : Answer) {m : ℕ} {r : Prelude.Option ℕ} → Found fails m r → (n : ℕ) → m ≤ n → (i : ℕ) → r ≡ Some i
+    → Err (refusal i) ≡ refused_by refusal (first_below fails n) later
+find-within fails refusal later {m} found n within i e =
+    let h : Found fails m (Some i) = subst (Found fails m) e found in
+    found_at fails refusal later n i (omega (arith, h.1)) (λ k l. h.3 k (omega arith) l) h.2
 
 -- .. where a test below n is whether the check fails
 module _ (fails test : ℕ → Bool) (n m : ℕ) (is : m ≡ n) (same : (k : ℕ) → k < n → fails k ≡ test k) (refusal : ℕ → Refusal) (later : Answer) {r : Prelude.Option ℕ} (found : Found test m r) where

@@ -15,7 +15,7 @@ ghost use Rattle.words.specs.Bodies.{body_at};
 ghost use Rattle.words.specs.Forms.{bad_right};
 ghost use Rattle.words.specs.Places.{wrong_word};
 
-use crate::{Body, body_end, entry, word};
+use crate::{Body, entry, word};
 use refusals::Refusal;
 
 // Words that pass 1 and 2: every entry is there, and every body stands where its entry says.
@@ -71,15 +71,19 @@ fn bad_contents(words: &[u16], r: usize) -> bool
     ensures { result ≡ bad_contents words.now r }
 {
     let rules = word(words, 3);
-    if (r < rules) & (words.len() <= 4 + r) {
+    if r == rules {
+        let last = entry(words, r - 1);
+        return outside(last + 2, last + 9, words.len());
+    }
+    if words.len() <= 4 + r {
         return true;
     }
+    let start = words[4 + r] as usize;
     if r == 0 {
-        return entry(words, 0) != 4 + rules;
+        return start != 4 + rules;
     }
-    let last = r - 1;
-    let start = entry(words, last);
-    outside(start + 2, start + 9, body_end(words, last))
+    let before = words[3 + r] as usize;
+    outside(before + 2, before + 9, start)
 }
 
 // The first entry that is absent or wrong, or R where the last body is.
