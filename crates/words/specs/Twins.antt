@@ -2,14 +2,9 @@
 -- Document 01, 5 TWIN: "an earlier rule has the same right side".
 -- Rests on Rules.
 --
--- Main definitions: same_right, twin_of. Main statements: right_told, twin-is; size-differs, word-differs, words_same; all-same (std's `all`
--- over the places of two right sides).
-use Rattle.std.specs.Prelude.{◌≡◌, refl, ◌↔◌, Bool, true, false, List, map, ℕ, ◌<◌, length, get_or}
-use Rattle.std.specs.Bool.{MatchBool}
-use Rattle.std.specs.List.{AllWithin, HoldsAt, range_with_len}
-use Rattle.std.proofs.Common.{sym, ap, subst, ◌∙◌, arith, ext_get_or}
-use Rattle.std.proofs.lemmas.Bool.{false≢true}
-use Rattle.std.proofs.lemmas.List.FromFn.{length-range_with_len, get_or-range_with_len}
+-- Main definitions: same_right, twin_of. Main statements: right_told, twin-is; size-differs, word-differs, words_same.
+use Rattle.std.specs.Prelude.{◌≡◌, ◌↔◌, Bool, true, false, List, map, ℕ, ◌<◌, length, get_or}
+use Rattle.std.proofs.Common.{sym, ap, ◌∙◌, arith, ext_get_or}
 use Rattle.laws.specs.Tests.{false-unless}
 use Rattle.language.specs.Symbols.{symbol_of, word_of, same_string}
 use Rattle.language.proofs.Symbols.{same_string-eq, same_string-refl}
@@ -52,22 +47,3 @@ module _ (words : List ℕ) where
   -- of rule r's right side, same_right tells the twins of rule r
   pub twin-is : {r : ℕ} {right : List ℕ} → r < count_r words → right ≡ right_words words r → (q : ℕ) → same_right words right q ≡ twin_of words r q
   twin-is {r} h e q = rw e (ap (same_string (rule_at (grammar_of words) q).right) (sym (right_of words r h)))
-
--- what std's `all` answers over the places of two right sides of one length: no word differs, or the word at one of them does
-module _ (xs ys : List ℕ) (long : length xs ≡ length ys) where
-  abbrev places : List ℕ
-  places = range_with_len 0 (length xs)
-
-  abbrev alike : ℕ → Type 0
-  alike i = get_or xs i 0 ≡ get_or ys i 0
-
-  pub all-same : (r : Bool) → MatchBool r (AllWithin alike places 0 (length places)) ((k : ℕ) × (k < length places) × HoldsAt (λ i. alike i → ⊥) places k)
-      → (r ≡ true) ↔ (xs ≡ ys)
-  all-same true all = (
-    λ e. ext_get_or 0 xs ys long (λ i h. subst alike (omega (arith, get_or-range_with_len 0 (length xs) i 0 h)) (all i 0 (omega arith) (omega (arith, length-range_with_len 0 (length xs))))),
-    λ e. refl,
-  )
-  all-same false one = (
-    λ e. absurd (false≢true e),
-    λ e. absurd (one.2 0 (ap (λ (ws : List ℕ). get_or ws (get_or places one.0 0) 0) e)),
-  )

@@ -1,7 +1,7 @@
 // Checks 1 to 5 of the grammar words, each over the whole grammar. Document 01, "The grammar words" and "Refusal numbers".
 // For each check a test of one candidate (a head word, an entry, a word place, a rule), and a search for the first that fails.
 // Words that pass 1 and 2 are a `Grammar`, of which 3 to 5 are asked.
-ghost use Rattle.std.specs.Prelude.{◌≡◌, ◌↔◌, true, [], ◌∷◌, ◌+◌, ◌≤◌, ◌<◌, map, MatchResult};
+ghost use Rattle.std.specs.Prelude.{◌≡◌, [], ◌∷◌, ◌+◌, ◌≤◌, ◌<◌, map, MatchResult};
 ghost use Rattle.language.specs.Words.{count_r, right_words, outside};
 ghost use Rattle.language.specs.Symbols.{symbol_of};
 ghost use Rattle.language.specs.Stages.{checked};
@@ -14,6 +14,7 @@ ghost use Rattle.words.specs.Laid.{Laid};
 ghost use Rattle.words.specs.Bodies.{body_at};
 ghost use Rattle.words.specs.Forms.{bad_right};
 ghost use Rattle.words.specs.Places.{wrong_word};
+ghost use Rattle.words.specs.Twins.{twin_of};
 
 use crate::{Body, entry, word};
 use refusals::Refusal;
@@ -116,13 +117,6 @@ fn bad_form(right: &[u16]) -> bool
     bare
 }
 
-// Two right sides are the same: as long, and no word differs.
-fn same(one: &[u16], other: &[u16]) -> bool
-    ensures { (result ≡ true) ↔ (one.now ≡ other.now) }
-{
-    one.len() == other.len() && (0..one.len()).all(|i| one[i] == other[i])
-}
-
 impl<'a> Grammar<'a> {
     // Checks 1 and 2: the words, laid as they say.
     pub(crate) fn new(words: &'a [u16]) -> Result<Self, Refusal>
@@ -212,14 +206,32 @@ impl<'a> Grammar<'a> {
 
     // ---- 5 TWIN
 
+    // Rules q and r have the same right side: their bodies are as long, and after the left sides no word differs.
+    fn same_right(&self, q: usize, r: usize) -> bool
+        requires { (q < count_r self.now.words.now) × (r < count_r self.now.words.now) }
+        ensures { result ≡ twin_of self.now.words.now r q }
+    {
+        let one = self.body(q);
+        let other = self.body(r);
+        let size = other.end - other.start;
+        if one.end - one.start != size {
+            return false;
+        }
+        for j in 1..size {
+            if self.words[one.start + j] != self.words[other.start + j] {
+                return false;
+            }
+        }
+        true
+    }
+
     // The least rule that has the same right side as an earlier one.
     pub(crate) fn twins(&self) -> Result<(), Refusal>
         ensures { result ≡ checked (twin_stage ∷ []) self.now.words.now }
     {
         for later in 0..self.rules() {
-            let right = self.right(later);
             for earlier in 0..later {
-                if same(self.right(earlier), right) {
+                if self.same_right(earlier, later) {
                     return Err(Refusal::Twin(later as u32));
                 }
             }
