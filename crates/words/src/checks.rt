@@ -206,7 +206,8 @@ impl<'a> Grammar<'a> {
 
     // ---- 5 TWIN
 
-    // Rules q and r have the same right side: their bodies are as long, and after the left sides no word differs.
+    // Rules q and r have the same right side: their bodies are as long, and after the left sides no word differs. By place, and not as two slices: the
+    // size is then that of rule r's body, the same for each q, and the first word that differs ends it (docs/DESIGN-PASS.md, "words, table").
     fn same_right(&self, q: usize, r: usize) -> bool
         requires { (q < count_r self.now.words.now) × (r < count_r self.now.words.now) }
         ensures { result ≡ twin_of self.now.words.now r q }
