@@ -1,0 +1,5 @@
+-- The tenth of a number that has more digits is less.
+use Rattle.lines.proofs.writing.+put_digits.Given as goal
+
+abbrev pub decreases-put_digits : goal.decreases-put_digits
+decreases-put_digits l = l.value
