@@ -51,8 +51,8 @@ use Rattle.parse.specs.ParseCall.{parsed_answer, parsed_area, parsed_out, parse_
 use Rattle.report.specs.ReportCall.{report_outcome, report_answer, report_out}
 use Rattle.matrix.specs.EndMarkOfShape.{own-shape}
 use Rattle.moving.specs.OnWords.{step-broken, step-in-shape, run-broken, run-in-shape, join-broken, join-in-shape}
-use Rattle.demands.specs.PublicCalls.{PublicCall, number-of, value-of, stuck-refusal, check-symbols, check-words, body-of, load, left-set, right-set, grammar-in-shape}
-use Rattle.demands.specs.PublicCalls.{in-shape, start, step, run, join, read-through, report, parse, entry-range, entry-tokens}
+use Rattle.demands.specs.PublicCalls.{PublicCall, number-of, value-of, stuck-refusal, check-symbols, check-words, body-of, load, left-set, right-set, all-are}
+use Rattle.demands.specs.PublicCalls.{grammar-in-shape, in-shape, start, step, run, join, read-through, report, parse, entry-range, entry-tokens}
 use Rattle.demands.specs.PublicCalls.{number_for, numbers_for, words_of, Written, written}
 use Rattle.demands.specs.GivenDemand.{StepGiven, step_15, step_12, step_13, step_0, RunGiven, run_15, run_12, run_13, run_0}
 use Rattle.demands.specs.GivenDemand.{JoinGiven, join_15, join_12, join_14, join_0, ReportGiven, report_15, report_16, report_stuck, report_11, report_0}
@@ -275,6 +275,7 @@ number-listed (body-of words r) = here
 number-listed (load words bytes) = load-listed words bytes
 number-listed (left-set words k) = left-listed words k
 number-listed (right-set words k) = right-listed words k
+number-listed (all-are equal elements wanted) = here
 number-listed (grammar-in-shape words matrix) = here
 number-listed (in-shape words matrix area) = here
 number-listed (start words matrix tokens cuts area) = start-listed words matrix tokens cuts (length area)
@@ -346,6 +347,7 @@ lent-kept (body-of words r) h m = no_run m
 lent-kept (load words bytes) h m = one-run Same (load_kept (load_answer words (length bytes)) words bytes h) m
 lent-kept (left-set words k) h m = no_run m
 lent-kept (right-set words k) h m = no_run m
+lent-kept (all-are equal elements wanted) h m = no_run m
 lent-kept (grammar-in-shape words matrix) h m = no_run m
 lent-kept (in-shape words matrix area) h m = no_run m
 lent-kept (start words matrix tokens cuts area) h m = one-run Same (start-kept (start_answer words matrix tokens cuts (length area)) tokens cuts area h) m
@@ -500,6 +502,7 @@ beyond-kept (body-of words r) m = no_run m
 beyond-kept (load words bytes) m = one-run Beyond (λ low. load-beyond (load_answer words (length bytes)) words bytes) m
 beyond-kept (left-set words k) m = no_run m
 beyond-kept (right-set words k) m = no_run m
+beyond-kept (all-are equal elements wanted) m = no_run m
 beyond-kept (grammar-in-shape words matrix) m = no_run m
 beyond-kept (in-shape words matrix area) m = no_run m
 beyond-kept (start words matrix tokens cuts area) m =

@@ -56,7 +56,7 @@ use Rattle.parse.specs.ParseCall.{then_start, parsed_answer, parse_outcome, pars
 use Rattle.report.specs.ReportCall.{report_outcome, report_answer, report-broken, report-in-shape}
 use Rattle.moving.specs.OnWords.{step-broken, step-in-shape, run-broken, run-in-shape, join-broken, join-in-shape}
 use Rattle.demands.specs.PublicCalls.{PublicCall, number-of, value-of, stuck-refusal, check-symbols, check-words, body-of, load, left-set, right-set}
-use Rattle.demands.specs.PublicCalls.{grammar-in-shape, in-shape, start, step, run, join, read-through, report, parse, entry-range, entry-tokens}
+use Rattle.demands.specs.PublicCalls.{all-are, grammar-in-shape, in-shape, start, step, run, join, read-through, report, parse, entry-range, entry-tokens}
 use Rattle.demands.proofs.SameReport.{right_tokens}
 use Rattle.demands.specs.ParseDemand.{UncutReader, parse-reads}
 use Rattle.demands.proofs.ParseDemand.{uncut-reader, uncut-finished}
@@ -333,6 +333,7 @@ given-for (body-of words r) = tt
 given-for (load words bytes) = load_given words (length bytes)
 given-for (left-set words k) = left-given words k
 given-for (right-set words k) = right-given words k
+given-for (all-are equal elements wanted) = tt
 given-for (grammar-in-shape words matrix) = tt
 given-for (in-shape words matrix area) = tt
 given-for (start words matrix tokens cuts area) = start-given words matrix tokens cuts (length area)

@@ -4,18 +4,31 @@
 -- its answer and the final content of everything lent to it, for all inputs, refusals too".
 -- A function's `clauses` are what its proof is held to; `args` are its parameters in their order, `end` what its slices refer to when it ends, `now` the
 -- words of a slice. 𝓤, 𝓛, mem and routines are the program logic's own.
--- Rests on PublicCalls and on the contracts in crates refusals, words, table, matrix, area, start, reader, parse and report, and on nothing else.
+-- The generic `all_are` is read off at every type T with an equality, and at u8 and u16, the two types that it is called at. A generic function's T comes with
+-- a lifetime of the logic's, which has to end within those that T's values name: of any T nothing else is asked, and of u8 and u16, which name none, nothing.
+-- Rests on PublicCalls, on the contracts in crates refusals, words, table, matrix, area, start, reader, parse and report, on std's eq of u8 and of u16, and
+-- on nothing else.
 --
 -- Main definition: AsPromised. Main statements: contracts; promise-kept, one-answer-only (what keeps these lines is one answer and one content of each run).
-use Rattle.std.specs.Prelude.{◌≡◌, refl}
+use Rattle.std.specs.Prelude.{◌≡◌, refl, eqb}
+use Rattle.std.specs.declared.cmp.PartialEq.{Ghosts}
+use Rattle.std.specs.contracts.prelude.U8PartialEq.TheImpl.{ghosts as own_u8}
+use Rattle.std.specs.contracts.prelude.U16PartialEq.TheImpl.{ghosts as own_u16}
 use Rattle.std.proofs.Common.{sym, ap, ◌∙◌}
 use seplogic.Ra.Ura.{Ura}
-use base.Logic.{SProp}
+use base.Logic.{SProp, both⊢, via, emp∗, mono_l}
 use prog.Memory.{Memory}
 use prog.Routine.{Routine}
 use types.Logic.{Logic}
+use mir.Syntax.{Dict}
+use denote.RattleType.{RattleType}
+use denote.Builtin.{u8, u16}
 use contract.Monad.{Fun}
 use contract.Notation
+use contract.Conj.{top}
+use contract.Fact.{fact_i}
+use contract.Lifetimes.{Lfts}
+use contract.BorrowLft.{◌⊑◌, ⊑_static}
 use Rattle.refusals.specs.contracts.Refusal.number as number
 use Rattle.refusals.specs.contracts.Refusal.value as value
 use Rattle.refusals.specs.contracts.stuck_refusal as stuck-refusal
@@ -25,6 +38,7 @@ use Rattle.words.specs.contracts.body_of as body-of
 use Rattle.table.specs.contracts.load as load
 use Rattle.table.specs.contracts.left_set as left-set
 use Rattle.table.specs.contracts.right_set as right-set
+use Rattle.matrix.specs.contracts.all_are as all-are
 use Rattle.matrix.specs.contracts.grammar_in_shape as grammar-in-shape
 use Rattle.area.specs.contracts.in_shape as in-shape
 use Rattle.start.specs.contracts.start as start
@@ -59,6 +73,10 @@ module _ {M : Type 1} {𝓤 : Ura M} (𝓛 : Logic 𝓤) (mem : Memory → SProp
   abbrev Says : SProp 𝓤 → SProp 𝓤 → SProp 𝓤 → Type 2
   Says requires ensures lines = (requires ≡ ⊤ₛ) × (ensures ≡ lines)
 
+  -- to ask what is so is to ask nothing
+  asks_nothing : (φ : Type 0) → φ → ⌜ φ ⌝ ∗ ⊤ₛ ≡ ⊤ₛ
+  asks_nothing φ x = both⊢ 𝓤 (top 𝓤 (⌜ φ ⌝ ∗ ⊤ₛ)) (via 𝓤 (⊤ₛ ∗ ⊤ₛ) (emp∗ 𝓤 ⊤ₛ) (mono_l 𝓤 ⊤ₛ (fact_i 𝓤 φ ⊤ₛ x)))
+
   pub record AsPromised : Type 2 where
     pub of_number : (κs args r end : _)
         → Says ((number.clauses 𝓛 mem routines κs args).requires tt) ((number.clauses 𝓛 mem routines κs args).ensures tt r end)
@@ -87,6 +105,16 @@ module _ {M : Type 1} {𝓤 : Ura M} (𝓛 : Logic 𝓤) (mem : Memory → SProp
     pub of_right_set : (κs args r end : _)
         → Says ((right-set.clauses 𝓛 mem routines κs args).requires tt) ((right-set.clauses 𝓛 mem routines κs args).ensures tt r end)
         (one_line r (promised (call.right-set args.0.now args.1.0)))
+    -- at any type T, `own` its equality and κs.1.1.0 its lifetime; then at u8 and at u16
+    pub of_all_are : (T : RattleType) (own : Ghosts T.Denot) (dict : Dict) (κs : Lfts 3) (args r end : _) → κs.1.1.0 ⊑ T.lives
+        → Says ((all-are.clauses T own dict 𝓛 mem routines κs args).requires tt) ((all-are.clauses T own dict 𝓛 mem routines κs args).ensures tt r end)
+        (one_line r (promised (call.all-are own.eq args.0.now args.1.0.now)))
+    pub of_all_are_bytes : (dict : Dict) (κs args r end : _)
+        → Says ((all-are.clauses u8 own_u8 dict 𝓛 mem routines κs args).requires tt) ((all-are.clauses u8 own_u8 dict 𝓛 mem routines κs args).ensures tt r end)
+        (one_line r (promised (call.all-are eqb args.0.now args.1.0.now)))
+    pub of_all_are_words : (dict : Dict) (κs args r end : _)
+        → Says ((all-are.clauses u16 own_u16 dict 𝓛 mem routines κs args).requires tt) ((all-are.clauses u16 own_u16 dict 𝓛 mem routines κs args).ensures tt r end)
+        (one_line r (promised (call.all-are eqb args.0.now args.1.0.now)))
     pub of_grammar_in_shape : (κs args r end : _)
         → Says ((grammar-in-shape.clauses 𝓛 mem routines κs args).requires tt) ((grammar-in-shape.clauses 𝓛 mem routines κs args).ensures tt r end)
         (one_line r (promised (call.grammar-in-shape args.0.now args.1.0.now)))
@@ -133,6 +161,9 @@ module _ {M : Type 1} {𝓤 : Ura M} (𝓛 : Logic 𝓤) (mem : Memory → SProp
     of_load = λ κs args r end. (refl, refl);
     of_left_set = λ κs args r end. (refl, refl);
     of_right_set = λ κs args r end. (refl, refl);
+    of_all_are = λ T own dict κs args r end within. (asks_nothing (κs.1.1.0 ⊑ T.lives) within, refl);
+    of_all_are_bytes = λ dict κs args r end. (asks_nothing (κs.1.1.0 ⊑ u8.lives) (⊑_static κs.1.1.0), refl);
+    of_all_are_words = λ dict κs args r end. (asks_nothing (κs.1.1.0 ⊑ u16.lives) (⊑_static κs.1.1.0), refl);
     of_grammar_in_shape = λ κs args r end. (refl, refl);
     of_in_shape = λ κs args r end. (refl, refl);
     of_start = λ κs args r end. (refl, refl);
@@ -166,6 +197,7 @@ promise-kept (call.body-of words r) = refl
 promise-kept (call.load words bytes) = (refl, refl)
 promise-kept (call.left-set words k) = refl
 promise-kept (call.right-set words k) = refl
+promise-kept (call.all-are equal elements wanted) = refl
 promise-kept (call.grammar-in-shape words matrix) = refl
 promise-kept (call.in-shape words matrix area) = refl
 promise-kept (call.start words matrix tokens cuts area) = (refl, refl)
@@ -189,6 +221,7 @@ one-answer-only (call.body-of words r) x y p q = p ∙ sym q
 one-answer-only (call.load words bytes) x y p q = both p q
 one-answer-only (call.left-set words k) x y p q = p ∙ sym q
 one-answer-only (call.right-set words k) x y p q = p ∙ sym q
+one-answer-only (call.all-are equal elements wanted) x y p q = p ∙ sym q
 one-answer-only (call.grammar-in-shape words matrix) x y p q = p ∙ sym q
 one-answer-only (call.in-shape words matrix area) x y p q = p ∙ sym q
 one-answer-only (call.start words matrix tokens cuts area) x y p q = both p q

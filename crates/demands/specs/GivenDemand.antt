@@ -39,7 +39,7 @@ use Rattle.moving.specs.ReadCall.{read_answer}
 use Rattle.parse.specs.ParseCall.{then_start, parse_begun, parse_answer}
 use Rattle.report.specs.ReportCall.{report_answer}
 use Rattle.demands.specs.PublicCalls.{PublicCall, number-of, value-of, stuck-refusal, check-symbols, check-words, body-of, load, left-set, right-set}
-use Rattle.demands.specs.PublicCalls.{grammar-in-shape, in-shape, start, step, run, join, read-through, report, parse, entry-range, entry-tokens}
+use Rattle.demands.specs.PublicCalls.{all-are, grammar-in-shape, in-shape, start, step, run, join, read-through, report, parse, entry-range, entry-tokens}
 use Rattle.demands.specs.ParseDemand.{UncutReader}
 
 -- ---- lists of conditions
@@ -136,6 +136,7 @@ GivenFor (body-of words r) = Unit {1}
 GivenFor (load words bytes) = (answer : Answer) → (load_answer words (length bytes) ≡ answer) ↔ Given (lent_to_load words (length bytes)) load_conditions answer
 GivenFor (left-set words k) = (answer : SetAnswer) → (left_set_answer words k ≡ answer) ↔ SetGiven words k (grammar_of words) answer
 GivenFor (right-set words k) = (answer : SetAnswer) → (right_set_answer words k ≡ answer) ↔ SetGiven words k (mirrored (grammar_of words)) answer
+GivenFor (all-are equal elements wanted) = Unit {1}
 GivenFor (grammar-in-shape words matrix) = Unit {1}
 GivenFor (in-shape words matrix area) = Unit {1}
 GivenFor (start words matrix tokens cuts area) = (answer : Answer)

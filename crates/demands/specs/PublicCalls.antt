@@ -7,6 +7,7 @@
 --
 -- Main definitions: PublicCall; GivesBack, promised, Keeps (that the contracts in code say just this: ContractsMet); number_for, numbers_for; Written, written.
 use Rattle.std.specs.Prelude.{◌≡◌, Bool, List, [], ◌∷◌, ℕ, ◌+◌, ◌*◌, length, Ok, Err}
+use Rattle.std.specs.List.{list_all}
 use Rattle.refusals.specs.declared.Refusal.{Refusal}
 use Rattle.refusals.specs.Answers.{Answer, SetAnswer, RunAnswer, ReportAnswer}
 use Rattle.refusals.specs.Refusals.{number_of, value_of, stuck_refusal, answer_number}
@@ -23,8 +24,8 @@ use Rattle.moving.specs.ReadCall.{read_answer, read_area}
 use Rattle.parse.specs.ParseCall.{parse_answer, parse_area, parse_out}
 use Rattle.report.specs.ReportCall.{report_answer, report_out, entry_tokens, entry_start, entry_end, word_address}
 
--- a call, with every word lent to it; `place` is where the token run stands
-pub data PublicCall : Type 0 where
+-- a call, with every word lent to it; `place` is where the token run stands. The elements of `all-are` are of any type A, and `equal` is that type's own eq
+pub data PublicCall : Type 1 where
   number-of : (refusal : Refusal) → PublicCall
   value-of : (refusal : Refusal) → PublicCall
   stuck-refusal : (status place : ℕ) → PublicCall
@@ -34,6 +35,7 @@ pub data PublicCall : Type 0 where
   load : (words bytes : List ℕ) → PublicCall
   left-set : (words : List ℕ) (k : ℕ) → PublicCall
   right-set : (words : List ℕ) (k : ℕ) → PublicCall
+  all-are : {A : Type 0} (equal : A → A → Bool) (elements : List A) (wanted : A) → PublicCall
   grammar-in-shape : (words matrix : List ℕ) → PublicCall
   in-shape : (words matrix area : List ℕ) → PublicCall
   start : (words matrix tokens cuts area : List ℕ) → PublicCall
@@ -57,6 +59,7 @@ GivesBack (body-of words r) = Body
 GivesBack (load words bytes) = Answer × List ℕ
 GivesBack (left-set words k) = SetAnswer
 GivesBack (right-set words k) = SetAnswer
+GivesBack (all-are equal elements wanted) = Bool
 GivesBack (grammar-in-shape words matrix) = Bool
 GivesBack (in-shape words matrix area) = Bool
 GivesBack (start words matrix tokens cuts area) = Answer × List ℕ
@@ -80,6 +83,7 @@ promised (body-of words r) = body_at words r
 promised (load words bytes) = (load_answer words (length bytes), load_bytes words bytes)
 promised (left-set words k) = left_set_answer words k
 promised (right-set words k) = right_set_answer words k
+promised (all-are equal elements wanted) = list_all (λ x. equal x wanted) elements
 promised (grammar-in-shape words matrix) = grammar_in_shape words matrix
 promised (in-shape words matrix area) = in_shape words matrix area
 promised (start words matrix tokens cuts area) = (start_answer words matrix tokens cuts (length area), start_area words matrix tokens cuts area)
@@ -111,6 +115,7 @@ Keeps (body-of words r) x = x ≡ promised (body-of words r)
 Keeps (load words bytes) x = Both x (promised (load words bytes))
 Keeps (left-set words k) x = x ≡ promised (left-set words k)
 Keeps (right-set words k) x = x ≡ promised (right-set words k)
+Keeps (all-are equal elements wanted) x = x ≡ promised (all-are equal elements wanted)
 Keeps (grammar-in-shape words matrix) x = x ≡ promised (grammar-in-shape words matrix)
 Keeps (in-shape words matrix area) x = x ≡ promised (in-shape words matrix area)
 Keeps (start words matrix tokens cuts area) x = Both x (promised (start words matrix tokens cuts area))
@@ -134,6 +139,7 @@ number_for (body-of words r) = 0
 number_for (load words bytes) = answer_number (load_answer words (length bytes))
 number_for (left-set words k) = answer_number (left_set_answer words k)
 number_for (right-set words k) = answer_number (right_set_answer words k)
+number_for (all-are equal elements wanted) = 0
 number_for (grammar-in-shape words matrix) = 0
 number_for (in-shape words matrix area) = 0
 number_for (start words matrix tokens cuts area) = answer_number (start_answer words matrix tokens cuts (length area))
@@ -157,6 +163,7 @@ numbers_for (body-of words r) = []
 numbers_for (load words bytes) = 1 ∷ 2 ∷ 3 ∷ 4 ∷ 5 ∷ 6 ∷ 11 ∷ []
 numbers_for (left-set words k) = 1 ∷ 2 ∷ 3 ∷ 4 ∷ 5 ∷ 21 ∷ []
 numbers_for (right-set words k) = 1 ∷ 2 ∷ 3 ∷ 4 ∷ 5 ∷ 21 ∷ []
+numbers_for (all-are equal elements wanted) = []
 numbers_for (grammar-in-shape words matrix) = []
 numbers_for (in-shape words matrix area) = []
 numbers_for (start words matrix tokens cuts area) = 15 ∷ 7 ∷ 8 ∷ 9 ∷ 10 ∷ 11 ∷ []
@@ -191,6 +198,7 @@ written (body-of words r) = []
 written (load words bytes) = record { before = bytes; after = load_bytes words bytes; counted = 4096 } ∷ []
 written (left-set words k) = []
 written (right-set words k) = []
+written (all-are equal elements wanted) = []
 written (grammar-in-shape words matrix) = []
 written (in-shape words matrix area) = []
 written (start words matrix tokens cuts area) =
