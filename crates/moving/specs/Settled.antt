@@ -39,9 +39,9 @@ pub record Holding (area : List ℕ) (c : ℕ) (h : Hand) : Type 0 where
   pub marks : h.marks < 65536
   pub reductions : h.reductions < 65536
 
--- the topmost terminal at hand is that of the stack
+-- the topmost terminal at hand is that of the stack; where the stack has none, the word at hand is 256, as `top_word` says
 abbrev pub Topped : List ℕ → Hand → Type 0
-Topped area h = TopIs area h.from h.head (terminal_of h.top)
+Topped area h = TopIs area h.from h.head (terminal_of h.top) × (h.top ≤ 256)
 
 -- a word that is not at hand
 abbrev pub Apart : ℕ → ℕ → Type 0
@@ -310,7 +310,9 @@ module _ {area : List ℕ} {c : ℕ} {h : Hand} (k : Holding area c h) where
         let last : last_word (set area at mark) headed ≡ headed - h.head
         = rw one (get_or-set_other area at (slot_at area headed - 1) mark 0 (omega (arith, e.1)) ∙ e.2) in
         let first : slot_word (set area at mark) h.head 0 ≡ slot_word area h.head 0 = rw one (get_or-set_other area at (slot_at area h.head + 0) mark 0 (omega arith)) in
-        top-laid long h.top (λ j l. sym (get_or-set_other area at j mark 0 (omega arith))) e.0 e.1 last first t
+        let laid : TopIs (set area at mark) h.from headed (terminal_of pushed.top) × (h.top ≤ 256 → pushed.top ≤ 256)
+        = top-laid long h.top (λ j l. sym (get_or-set_other area at j mark 0 (omega arith))) e.0 e.1 last first t.0 in
+        (laid.0, laid.1 t.1)
 
     held-pushed : Holding (set area at mark) c pushed
     held-pushed =
@@ -378,7 +380,7 @@ module _ {area : List ℕ} {c : ℕ} {h : Hand} (k : Holding area c h) where
     pub top-ended : Topped area h → Topped (cleared_words area last 4) ended
     top-ended t =
         let unread : h.head < h.end = omega (arith, p.unread, (settles k).hand.head, (settles k).hand.end) in
-        top_kept (sym (cleared-length area last 4 in_area)) (λ j l. sym (cleared-before area last 4 j (omega arith) (omega (arith, in_area)))) t
+        (top_kept (sym (cleared-length area last 4 in_area)) (λ j l. sym (cleared-before area last 4 j (omega arith) (omega (arith, in_area)))) t.0, t.1)
 
     pub settled-accepted : (settled (cleared_words area last 4) c ended ≡ ended_words whole c) × Holding (cleared_words area last 4) c ended
     settled-accepted =
@@ -469,7 +471,7 @@ module _ {area : List ℕ} {c : ℕ} {h : Hand} (k : Holding area c h) where
     noted-below : (j : ℕ) → j < slot_at area from → get_or area j 0 ≡ get_or noted j 0
     noted-below j l = sym (noted-slot j (omega (arith, in-slots)) ∙ over-before area from h.head symbol j l in-slots.0 (omega (arith, in-slots)))
 
-    pub top-reduced : 256 ≤ symbol → h.from ≤ from → TopIs area h.from from (terminal_of top) → Topped noted reduced
+    pub top-reduced : 256 ≤ symbol → h.from ≤ from → TopIs area h.from from (terminal_of top) × (top ≤ 256) → Topped noted reduced
     top-reduced nonterminal below t =
         let one : get_or noted 1 0 ≡ get_or area 1 0 = noted-word 1 (omega arith) in
         let long : length area ≡ length noted = simp length-set (sym long-over) in
@@ -477,8 +479,8 @@ module _ {area : List ℕ} {c : ℕ} {h : Hand} (k : Holding area c h) where
         = rw one (noted-slot (slot_at area h.head - 1) (omega (arith, in-slots)) ∙ over_last area from h.head symbol in-slots.0 in-slots.1) in
         let first : slot_word noted from 0 ≡ symbol
         = rw one (noted-slot (slot_at area from + 0) (omega (arith, in-slots)) ∙ over_first area from h.head symbol in-slots.0 in-slots.1) in
-        let laid : TopIs noted h.from h.head (terminal_of (top_after symbol top)) = top-laid long top noted-below below in-slots.0 last first t in
-        rw (le-ltb symbol 256 nonterminal, top_after) at laid
+        let laid : TopIs noted h.from h.head (terminal_of (top_after symbol top)) = (top-laid long top noted-below below in-slots.0 last first t.0).0 in
+        (rw (le-ltb symbol 256 nonterminal, top_after) at laid, t.1)
 
     held-reduced : Holding noted c reduced
     held-reduced =

@@ -6,6 +6,7 @@
 use Rattle.std.specs.Prelude.{◌≡◌, List, [], ◌∷◌, ◌++◌, ℕ, ◌+◌, ◌-◌, ◌<◌, ◌≤◌, length, get_or, Some, None, IfSome}
 use Rattle.std.specs.Prelude.{Option as Answered}
 use Rattle.std.proofs.Common.{sym, ap, ◌∙◌, append_assoc, arith}
+use Rattle.std.proofs.Math.Decide.{dec_lt}
 use Rattle.laws.specs.Tests.{lt-ltb, le-ltb}
 use Rattle.language.specs.Trees.{Span}
 use Rattle.machine.specs.Entries.{Entry, terminal_on, nonterminal_on, top_terminal}
@@ -24,11 +25,15 @@ module _ {area other : List ℕ} (long : length area ≡ length other) {s : ℕ}
   pub top_kept : {e : ℕ} {top : Answered ℕ} → ((k : ℕ) → k < slot_at area e → get_or area k 0 ≡ get_or other k 0) → TopIs area s e top → TopIs other s e top
   top_kept same t = record { found = λ stack h. t.found stack (holds_kept (sym long) (λ k l. sym (same k (omega (arith, same 1 (omega arith))))) h) }
 
-  -- a block of a symbol of word b laid on the slots from `at` up to e
+  -- a block of a symbol of word b laid on the slots from `at` up to e; a word at hand that is at most 256 stays so
   pub top-laid : {at e b : ℕ} (top : ℕ) → ((k : ℕ) → k < slot_at area at → get_or area k 0 ≡ get_or other k 0) → s ≤ at → at < e → last_word other e ≡ e - at → slot_word other at 0 ≡ b
-      → TopIs area s at (terminal_of top) → TopIs other s e (terminal_of (top_after b top))
-  top-laid {at} {e} {b} top same low some last first t = record { found = go }
+      → TopIs area s at (terminal_of top) → TopIs other s e (terminal_of (top_after b top)) × (top ≤ 256 → top_after b top ≤ 256)
+  top-laid {at} {e} {b} top same low some last first t = (record { found = go }, fits (dec_lt b 256))
     where
+      fits : Dec (b < 256) → top ≤ 256 → top_after b top ≤ 256
+      fits (yes l) h = rw (lt-ltb b 256 l, top_after) (omega arith)
+      fits (no l) h = rw (le-ltb b 256 (omega arith), top_after) h
+
       under : {x : Entry Span} {rest : List (Entry Span)} → Holds other s e (x ∷ rest) → Holds area s at rest
       under h =
           let start : start_slot other e ≡ at = omega (arith, last) in
@@ -67,10 +72,10 @@ below-stacked handle below h = stacked below (record {
   told = told-lower handle below h.told;
 })
 
--- what is found is at hand by its word
-pub at-hand : {area : List ℕ} {s e word : ℕ} (top : Answered ℕ) → IfSome top (λ a. a < 256) → word ≡ top_word top → TopIs area s e top → TopIs area s e (terminal_of word)
-at-hand None h w t = rw w t
+-- what is found is at hand by its word, which is at most 256
+pub at-hand : {area : List ℕ} {s e word : ℕ} (top : Answered ℕ) → IfSome top (λ a. a < 256) → word ≡ top_word top → TopIs area s e top → TopIs area s e (terminal_of word) × (word ≤ 256)
+at-hand None h w t = rw w (t, omega arith)
 at-hand {word = word} (Some a) h w t =
     let there : terminal_of a ≡ Some a = rw (lt-ltb a 256 h, terminal_of) in
     let e : terminal_of word ≡ Some a = ap terminal_of w ∙ there in
-    rw e t
+    (rw e t, omega (arith, w, h))

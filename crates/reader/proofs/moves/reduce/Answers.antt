@@ -1,5 +1,6 @@
 -- The symbol laid over the handle and the reduction put in, with the counts at hand, are `made_words`.
-use Rattle.std.proofs.Common.{refl, ◌<◌, get_or, arith, rules}
+use Rattle.std.proofs.Common.{◌≡◌, refl, ◌<◌, get_or, arith, rules}
+use Rattle.moving.specs.ReadWords.{top_word}
 use Rattle.moving.specs.Settled.{settles, reduce-fits, can-lay, can-note, settled-reduced, top-reduced}
 use Rattle.moving.specs.SettledReadings.{hand-below}
 use Rattle.moving.specs.StackTops.{at-hand}
@@ -48,5 +49,7 @@ returns-clause-topped c =
     let few : get_or a.area.now 0 0 < 65536 = search rules in
     let n = c.new.ensures in
     let below = hand-below p.1 (settles p.1) p.2 in
-    let t = top-reduced p.1 a.from a.symbol a.rule c.top_word.result p.0 few p.3 (omega (arith, below.holds.stands.stop)) (at-hand _ c.top_terminal.ensures.small c.top_word.ensures (rw (n.0, n.1, n.2) at c.top_terminal.ensures.top)) in
+    let word : c.top_word.result ≡ top_word c.top_terminal.result = grind arith in
+    let found = at-hand _ c.top_terminal.ensures.small word (rw (n.0, n.1, n.2) at c.top_terminal.ensures.top) in
+    let t = top-reduced p.1 a.from a.symbol a.rule c.top_word.result p.0 few p.3 (omega (arith, below.holds.stands.stop)) found in
     rw (c.note.ensures, c.lay.ensures) t

@@ -39,7 +39,7 @@ related-requires c =
       movable = c.requires.movable;
       next = of-next k (settles k) c.slot_word-b.ensures;
       terminal = c.if-b-ge256.false;
-      top = rw (sym c.terminal.ensures ∙ c.in-Some.is) at (of-top k (settles k) c.requires.topped);
+      top = rw (sym c.terminal.ensures ∙ c.in-Some.is) at (of-top k (settles k) c.requires.topped.0);
     }
 
 pub returns-in-None : goal.returns-in-None
@@ -48,5 +48,5 @@ returns-in-None c =
     record {
       possible = can-push c.requires.movable 0 (omega arith);
       leaves = put_first (rw (of-next k (settles k) c.slot_word-b.ensures) at c.if-b-ge256.false)
-          (rw (sym c.terminal.ensures ∙ c.in-None.is) at (of-top k (settles k) c.requires.topped));
+          (rw (sym c.terminal.ensures ∙ c.in-None.is) at (of-top k (settles k) c.requires.topped.0));
     }
