@@ -2,7 +2,8 @@
 -- row, and of all.
 -- Rests on specs' GrammarShape, ByteTests and EndMarkOfShape, and on laws' Looks.
 --
--- Main statements: passed, refused; all-fold, part-told; range-passes, range-fails; byte-here, row-told, row-fit, row-fails; short-fails, rows-fit, part-fails, whole-told.
+-- Main statements: passed, refused; all-fold, part-told; range-passes, range-fails; byte-here, row-told, row-fit, row-fails;
+-- short-fails, rows_more, rows-fit, part-fails, whole-told.
 use Rattle.std.specs.Prelude.{Ok, Err}
 use Rattle.std.proofs.Common.{◌≡◌, refl, sym, ap, subst, ◌∙◌, ◌⊎◌, inl, inr, Bool, true, false, ◌&&◌, fold, List, [], ◌∷◌, ℕ, zero, suc, ◌-◌, ◌+◌, ◌*◌, ◌/◌, ◌%◌, ◌<◌, ◌≤◌, leb, ltb, length, get_or, take, drop, arith, length-drop, length-take-le}
 use Rattle.std.proofs.lemmas.List.{get_or-take, get_or-drop}
@@ -130,9 +131,19 @@ module _ (t : ℕ) (matrix : List ℕ) where
 
   -- ---- (b), every byte
 
+  -- the rows before a fit, and a too
+  pub rows_more : (a : ℕ) (r : Bool) → ((v : ℕ) → v < 64 * a → byte_at t matrix v ≡ true) → TellsAll (byte_at t matrix) (64 * a) (64 * a + 64) r → r ≡ true
+      → (v : ℕ) → v < 64 * (a + 1) → byte_at t matrix v ≡ true
+  rows_more a r before tells e v h = go (dec_lt v (64 * a))
+    where
+      go : Dec (v < 64 * a) → byte_at t matrix v ≡ true
+      go (yes l) = before v l
+      go (no l) = tells.0 e v (omega arith) (omega arith)
+
   -- every row before the n-th fits
   pub rows-fit : (n : ℕ) → ((a : ℕ) → a < n → TellsAll (byte_at t matrix) (64 * a) (64 * a + 64) true) → (v : ℕ) → v < 64 * n → byte_at t matrix v ≡ true
-  rows-fit n rows v h = (rows (v / 64) (omega arith)).0 refl v (omega arith) (omega arith)
+  rows-fit zero rows v h = absurd (omega arith)
+  rows-fit (suc n) rows v h = rows_more n true (rows-fit n (λ a i. rows a (omega arith))) (rows n (omega arith)) refl v (omega arith)
 
   pub short-fails : length matrix < 4096 → rule_b t matrix ≡ false
   short-fails h = ap (λ (b : Bool). pick b (all (byte_at t matrix) (up_to 4096)) false) (lt-leb 4096 (length matrix) h)
