@@ -2,8 +2,8 @@
 -- row, and of all.
 -- Rests on specs' GrammarShape, ByteTests and EndMarkOfShape, and on laws' Looks.
 --
--- Main statements: passed, refused; all-fold, part-told; range-passes, range-fails; byte-here, row-told, row-fit, row-fails;
--- short-fails, rows_more, rows-fit, part-fails, whole-told.
+-- Main statements: passed, refused; all-fold, part-told, range-told; range-passes, range-fails; byte-here, row-told, row-tests,
+-- row-fit, row-lacks; short-fails, rows_more, rows-fit, part-fails, whole-told.
 use Rattle.std.specs.Prelude.{Ok, Err}
 use Rattle.std.proofs.Common.{◌≡◌, refl, sym, ap, subst, ◌∙◌, ◌⊎◌, inl, inr, Bool, true, false, ◌&&◌, fold, List, [], ◌∷◌, ℕ, zero, suc, ◌-◌, ◌+◌, ◌*◌, ◌/◌, ◌%◌, ◌<◌, ◌≤◌, leb, ltb, length, get_or, take, drop, arith, length-drop, length-take-le}
 use Rattle.std.proofs.lemmas.List.{get_or-take, get_or-drop}
@@ -11,7 +11,7 @@ use Rattle.std.specs.List.{list_all, AllWithin, HoldsAt, range_with_len}
 use Rattle.std.specs.Bool.{MatchBool}
 use Rattle.std.proofs.lemmas.List.FromFn.{length-range_with_len, get_or-range_with_len}
 use Rattle.std.proofs.Math.Decide.{dec_lt}
-use Rattle.laws.specs.Tests.{all, up_to, false-unless, not-both, same_test, and_both, both-and, lt-leb, le-leb, lt-ltb}
+use Rattle.laws.specs.Tests.{all, up_to, false-unless, not-both, same_test, and_both, both-and, lt-leb, le-leb, lt-ltb, le-ltb}
 use Rattle.laws.specs.Looks.{TellsAll}
 use Rattle.laws.specs.Picks.{pick, both-pick}
 use Rattle.refusals.specs.declared.Refusal.{Refusal}
@@ -70,6 +70,15 @@ module _ (test : ℕ → Bool) where
       long : length part ≡ end - from
       long = length-take-le (end - from) (drop from xs) (omega (arith, length-drop from xs))
 
+  -- .. and at the numbers below n
+  pub range-told : (n : ℕ) → TellsAll test 0 n (list_all test (range_with_len 0 n))
+  range-told n = (
+    λ e v i j. subst (λ w. test w ≡ true) (omega (arith, get_or-range_with_len 0 n v 0 j)) (all-at (range_with_len 0 n) e v (omega (arith, length-range_with_len 0 n))),
+    λ p. at-all (range_with_len 0 n) (λ v i.
+        let h : v < n = omega (arith, length-range_with_len 0 n) in
+        subst (λ w. test w ≡ true) (omega (arith, get_or-range_with_len 0 n v 0 h)) (p v (omega arith) h)),
+  )
+
   -- the places before mid pass, and from there on another test tells the same
   rest-told : (other : ℕ → Bool) (from mid end : ℕ) (r : Bool) → from ≤ mid → ((v : ℕ) → from ≤ v → v < mid → test v ≡ true)
       → ((v : ℕ) → mid ≤ v → v < end → other v ≡ test v) → TellsAll other mid end r → TellsAll test from end r
@@ -118,16 +127,23 @@ module _ (t : ℕ) (matrix : List ℕ) where
   row-told a r h before zeros =
       rest-told (byte_at t matrix) (zero_at matrix) (64 * a) (64 * a + (t + 1)) (64 * a + 64) r (omega arith) before (λ v i j. past v (inr (omega arith))) zeros
 
+  -- the test of a over b that needs no t is that of its bytes up to t, and tells of all of them
+  pub row-tests : (a : ℕ) {r : Bool} → t < 64 → a ≤ t → r ≡ list_all (λ b. byte_fits (a + b) a b (get_or matrix (64 * a + b) 0)) (range_with_len 0 (t + 1))
+      → TellsAll (λ b. byte_at t matrix (64 * a + b)) 0 (t + 1) r
+  row-tests a few h e =
+      rw e (rest-told (λ b. byte_at t matrix (64 * a + b)) (λ b. byte_fits (a + b) a b (get_or matrix (64 * a + b) 0)) 0 0 (t + 1) _ (omega arith)
+      (λ v i j. absurd (omega arith)) same (range-told (λ b. byte_fits (a + b) a b (get_or matrix (64 * a + b) 0)) (t + 1)))
+    where
+      same : (b : ℕ) → 0 ≤ b → b < t + 1 → byte_fits (a + b) a b (get_or matrix (64 * a + b) 0) ≡ byte_at t matrix (64 * a + b)
+      same b i j = rw (byte-here a b (omega arith), le-ltb t a h, le-ltb t b (omega arith), le-ltb (a + b) a (omega arith), le-ltb (a + b) b (omega arith))
+
   -- its bytes up to t fit, byte by byte
   pub row-fit : (a : ℕ) → ((b : ℕ) → b < t + 1 → byte_at t matrix (64 * a + b) ≡ true) → (v : ℕ) → 64 * a ≤ v → v < 64 * a + (t + 1) → byte_at t matrix v ≡ true
   row-fit a bytes v i j = subst (λ w. byte_at t matrix w ≡ true) (omega arith) (bytes (v - 64 * a) (omega arith))
 
-  -- one of them does not
-  pub row-fails : (a b : ℕ) (r : Bool) → b < 64 → byte_at t matrix (64 * a + b) ≡ false → r ≡ false → TellsAll (byte_at t matrix) (64 * a) (64 * a + 64) r
-  row-fails a b r h fails e = (
-    λ p. absurd (not-both r p e),
-    λ all. absurd (not-both (byte_at t matrix (64 * a + b)) (all (64 * a + b) (omega arith) (omega arith)) fails),
-  )
+  -- .. or not all of them
+  pub row-lacks : (a : ℕ) (r : Bool) → t < 64 → TellsAll (λ b. byte_at t matrix (64 * a + b)) 0 (t + 1) r → r ≡ false → TellsAll (byte_at t matrix) (64 * a) (64 * a + 64) r
+  row-lacks a r few tells e = (λ p. absurd (not-both r p e), λ all. tells.1 (λ b i j. all (64 * a + b) (omega arith) (omega arith)))
 
   -- ---- (b), every byte
 

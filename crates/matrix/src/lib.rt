@@ -29,14 +29,15 @@ pub fn all_are<T: PartialEq>(run: &[T], wanted: &T) -> bool
     run.iter().fold(true, |all, x| all & (*x == *wanted))
 }
 
-// The bytes of row a, which is not past t, fit: those up to t, and those past t are 0.
+// The bytes of row a, which is not past t, fit: those up to t, and those past t are 0. The look at those up to t has no exit before
+// the end, as in `all_are`.
 fn row_fits(matrix: &[u8], t: usize, a: usize) -> bool
     requires { (a ≤ t) × (t < 64) × (4096 ≤ length matrix.now) }
     ensures { TellsAll (byte_at t matrix.now) (64 * a) (64 * a + 64) result }
 {
     let start = 64 * a;
     let past = t + 1;
-    (0..past).all(|b| byte_fits(a, b, matrix[start + b]))
+    (0..past).fold(true, |all, b| all & byte_fits(a, b, matrix[start + b]))
         && all_are(&matrix[start + past..start + 64], &0)
 }
 
