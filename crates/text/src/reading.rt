@@ -4,7 +4,7 @@ ghost use Rattle.std.specs.Prelude.{◌≡◌, ◌+◌, ◌<◌, ◌≤◌, leng
 ghost use Rattle.laws.specs.Decimals.{is_digit};
 ghost use Rattle.laws.specs.Picks.{pick};
 ghost use Rattle.text.specs.Readings.{read_text};
-ghost use Rattle.text.specs.Feeding.{held, start, in_phase, started, line_number, line_ended, opened, longer, full, kept, followed, ended, fed, fed_all, answer_of, finish_of};
+ghost use Rattle.text.specs.Feeding.{held, start, started, line_number, line_ended, opened, longer, full, kept, followed, ended, fed, fed_all, answer_of, finish_of};
 ghost use Rattle.text.specs.TextFed.{answer_for, after};
 
 // The line that is being read, by its number.
@@ -71,43 +71,32 @@ impl State {
         }
     }
 
-    // The same state in another phase.
-    fn in_phase(self, phase: Phase) -> State
-        ensures { result ≡ in_phase self phase }
+    // A number must start. This and the methods below set in place what a byte changes: a whole state made anew would copy its counts at each byte.
+    fn started(&mut self, byte: u8)
+        ensures { self.new ≡ started self.old byte }
     {
-        State { phase, ..self }
-    }
-
-    // A number must start.
-    fn started(self, byte: u8) -> State
-        ensures { result ≡ started self byte }
-    {
-        if byte.is_ascii_digit() {
-            self.in_phase(Phase::Number(u16::from(byte - b'0')))
+        self.phase = if byte.is_ascii_digit() {
+            Phase::Number(u16::from(byte - b'0'))
         } else {
-            self.in_phase(Phase::Bad)
-        }
+            Phase::Bad
+        };
     }
 
     // The line ends here, and the next begins; the third is the last.
-    fn line_ended(self) -> State
-        ensures { result ≡ line_ended self }
+    fn line_ended(&mut self)
+        ensures { self.new ≡ line_ended self.old }
     {
-        let line = match self.line {
-            Line::Words => Line::Tokens,
-            Line::Tokens => Line::Cuts,
-            Line::Cuts => return self.in_phase(Phase::Done),
-        };
-        State {
-            line,
-            phase: Phase::Fresh,
-            ..self
+        self.phase = Phase::Fresh;
+        match self.line {
+            Line::Words => self.line = Line::Tokens,
+            Line::Tokens => self.line = Line::Cuts,
+            Line::Cuts => self.phase = Phase::Done,
         }
     }
 
     // A line begins: it is empty, or a number must start.
-    fn opened(self, byte: u8) -> State
-        ensures { result ≡ opened self byte }
+    fn opened(&mut self, byte: u8)
+        ensures { self.new ≡ opened self.old byte }
     {
         match byte {
             b'\n' => self.line_ended(),
@@ -116,25 +105,25 @@ impl State {
     }
 
     // One more digit of a number.
-    fn longer(self, value: u16, digit: u8) -> State
+    fn longer(&mut self, value: u16, digit: u8)
         requires { is_digit digit ≡ true }
-        ensures { result ≡ longer self value digit }
+        ensures { self.new ≡ longer self.old value digit }
     {
         let next = u32::from(value) * 10 + u32::from(digit - b'0');
-        match u16::try_from(next) {
-            Ok(next) => self.in_phase(Phase::Number(next)),
-            Err(_) => self.in_phase(Phase::Bad),
-        }
+        self.phase = match u16::try_from(next) {
+            Ok(next) => Phase::Number(next),
+            Err(_) => Phase::Bad,
+        };
     }
 
     // What may follow a number: a space, or the line's end.
-    fn followed(self, byte: u8) -> State
-        ensures { result ≡ followed self byte }
+    fn followed(&mut self, byte: u8)
+        ensures { self.new ≡ followed self.old byte }
     {
         match byte {
-            b' ' => self.in_phase(Phase::Space),
+            b' ' => self.phase = Phase::Space,
             b'\n' => self.line_ended(),
-            _ => self.in_phase(Phase::Bad),
+            _ => self.phase = Phase::Bad,
         }
     }
 
@@ -197,9 +186,9 @@ impl Held {
         ensures { self.new ≡ ended self.old value byte }
     {
         if self.keep(value) {
-            self.state = self.state.followed(byte);
+            self.state.followed(byte);
         } else {
-            self.state = self.state.in_phase(Phase::Bad);
+            self.state.phase = Phase::Bad;
         }
     }
 
@@ -208,12 +197,11 @@ impl Held {
     pub fn feed(&mut self, byte: u8)
         ensures { self.new ≡ fed self.old byte }
     {
-        let state = self.state;
-        match state.phase {
-            Phase::Fresh => self.state = state.opened(byte),
-            Phase::Number(value) if byte.is_ascii_digit() => self.state = state.longer(value, byte),
+        match self.state.phase {
+            Phase::Fresh => self.state.opened(byte),
+            Phase::Number(value) if byte.is_ascii_digit() => self.state.longer(value, byte),
             Phase::Number(value) => self.end(value, byte),
-            Phase::Space => self.state = state.started(byte),
+            Phase::Space => self.state.started(byte),
             Phase::Bad | Phase::Done => {}
         }
     }
