@@ -3,8 +3,9 @@
 -- nothing more is asked for.
 -- Rests on Readings, ReadingLaws, Feeding, LineRead, LineFed, and on specs' TextFed.
 --
--- Main statements: text-fed (the answer at the end, that nothing is asked for after the third line feed, and the buffers), buffers-hold,
--- pieces-fed and pieces-read (however the text is cut in pieces), early (an answer given before the end stands, whatever comes).
+-- Main statements: text-fed (the answer at the end, that nothing is asked for after the third line feed, and the buffers), numbers-fed (the
+-- number of the line that is missing or bad: 1, 2 or 3), buffers-hold, pieces-fed and pieces-read (however the text is cut in pieces), early (an
+-- answer given before the end stands, whatever comes).
 use Rattle.std.specs.Prelude.{◌≡◌, refl, Bool, true, false, List, [], ◌∷◌, ◌++◌, ℕ, suc, ◌+◌, ◌≤◌, ◌<◌, eqb, length, set, Option, Some, None, Result, Err}
 use Rattle.std.proofs.Common.{sym, ◌∙◌, add-zero, zero-add, add-one, arith}
 use Rattle.std.proofs.Math.Path.{ap}
@@ -22,11 +23,11 @@ use Rattle.text.specs.declared.reading.Phase.{Phase}
 use Rattle.text.specs.declared.reading.Phase.TheVariants.{Fresh, Number, Space, Bad, Done}
 use Rattle.text.specs.declared.reading.State.{State}
 use Rattle.text.proofs.ReadingLaws.{bad-first, bad-second, bad-third, good-third, read-limited}
-use Rattle.text.specs.Readings.{lines_of, line_of, at_most, most_words, most_tokens, most_cuts, Reading, lines, bad_line, read_lines, read_text}
-use Rattle.text.specs.Feeding.{held, start, fed_all, fed-append, bad-stays, done-stays, answer_in, answer_of, finish_in, finish_of}
+use Rattle.text.specs.Readings.{lines_of, line_of, at_most, good_line, most_words, most_tokens, most_cuts, Reading, lines, bad_line, read_lines, read_text}
+use Rattle.text.specs.Feeding.{held, start, fed_all, fed-append, bad-stays, done-stays, line_number, answer_in, answer_of, finish_in, finish_of}
 use Rattle.text.specs.LineRead.{numbers_after, line-is}
 use Rattle.text.specs.LineFed.{NoFeed, held_in, line_done, kept_all, room, Broken, Ended, line-fed, NotDone, Unfinished, unfinished-stays}
-use Rattle.text.specs.TextFed.{answer_for, onto, done, after_pieces, after, TextFed, TextHeld}
+use Rattle.text.specs.TextFed.{answer_for, number_in, onto, done, after_pieces, after, TextFed, TextHeld, NumberFed, NumbersFed}
 
 -- a text has no line feed, or is cut at its first
 data Cut : List ℕ → Type 0 where
@@ -210,6 +211,27 @@ module _ (W T C : List ℕ) where
   -- a text that has been fed whole
   pub text-fed : (text : List ℕ) → TextFed W T C text
   text-fed text = first-read text (level (held start W T C) (cut text))
+
+  number-fed : (text : List ℕ) (l : Line) → read_text text ≡ bad_line l → NumberFed W T C text (line_number l)
+  number-fed text l e =
+      let f = text-fed text in
+      let said : answer_for (read_text text) ≡ Err l = ap answer_for e in
+      record {
+        read = ap (λ (a : Result Counts Line). number_in (Some a)) said;
+        at_end = ap (λ (a : Result Counts Line). number_in (Some a)) (f.finished ∙ said);
+        at_once = λ three. ap number_in (f.asked three ∙ ap (λ (a : Result Counts Line). Some a) said);
+      }
+
+  -- the first of the three lines that is missing or bad has the number 1, the second 2, the third 3
+  pub numbers-fed : (text : List ℕ) → NumbersFed W T C text
+  numbers-fed text =
+      let ls = lines_of text in
+      let e = read-is text ls refl in
+      record {
+        first_line = λ a. number-fed text Words (e ∙ bad-first ls a);
+        second_line = λ words a b. number-fed text Tokens (e ∙ bad-second ls words a b);
+        third_line = λ words tokens a b c. number-fed text Cuts (e ∙ bad-third ls words a tokens b c);
+      }
 
   -- buffers of the sizes that document 01 gives hold the numbers that have been read at their fronts, and the rest of them is as it was
   pub buffers-hold : most_words ≤ length W → most_tokens ≤ length T → most_cuts ≤ length C → (text words tokens cuts : List ℕ) → read_text text ≡ lines words tokens cuts
