@@ -42,7 +42,7 @@ PUBLIC = re.compile(r'^\s*pub (?:extern "C" )?fn (\w+)')
 # crates the files proofs/*.antt are lemmas of the proofs of functions
 PROOFS = ["language", "machine", "text", "demands"]
 # the final statements: a file of specs, and the names in it; None for every public theorem of the file
-STATEMENTS = [("demands", "Proved", None), ("demands", "Starred", ["starred"]), ("text", "TextFed", ["text-fed", "pieces-read"])]
+STATEMENTS = [("demands", "Proved", None), ("demands", "Starred", ["starred"]), ("text", "TextFed", ["text-fed", "numbers-fed", "pieces-read"])]
 
 # definitions that compute, and the theorems that tie them to propositions: who believes the propositions need not read the definition.
 # (The stages of the checks are tied by the `-given` theorems, whose conditions hold both.)

@@ -23,7 +23,7 @@ use Rattle.text.specs.declared.reading.Phase.{Phase}
 use Rattle.text.specs.declared.reading.Phase.TheVariants.{Fresh, Number, Space, Bad, Done}
 use Rattle.text.specs.declared.reading.State.{State}
 use Rattle.text.proofs.ReadingLaws.{bad-first, bad-second, bad-third, good-third, read-limited}
-use Rattle.text.specs.Readings.{lines_of, line_of, at_most, good_line, most_words, most_tokens, most_cuts, Reading, lines, bad_line, read_lines, read_text}
+use Rattle.text.specs.Readings.{lines_of, line_of, at_most, most_words, most_tokens, most_cuts, Reading, lines, bad_line, read_lines, read_text}
 use Rattle.text.specs.Feeding.{held, start, fed_all, fed-append, bad-stays, done-stays, line_number, answer_in, answer_of, finish_in, finish_of}
 use Rattle.text.specs.LineRead.{numbers_after, line-is}
 use Rattle.text.specs.LineFed.{NoFeed, held_in, line_done, kept_all, room, Broken, Ended, line-fed, NotDone, Unfinished, unfinished-stays}

@@ -1,11 +1,12 @@
 // Three lines of decimal numbers read in pieces: grammar words, tokens, cuts. Document 01, "Sample rows".
-// What has been read stands in a `Held`, which takes a byte or a piece at a time. What a whole text says is `read_text`.
+// What has been read stands in a `Held`, which takes a byte or a piece at a time; a caller whose buffers are lent to it has the functions under it.
+// What a whole text says is `read_text`.
 ghost use Rattle.std.specs.Prelude.{◌≡◌, ◌+◌, ◌<◌, ◌≤◌, length, slice_set, MatchBool, not, replicate, true};
 ghost use Rattle.laws.specs.Decimals.{is_digit};
 ghost use Rattle.laws.specs.Picks.{pick};
 ghost use Rattle.text.specs.Readings.{read_text};
 ghost use Rattle.text.specs.Feeding.{held, start, started, line_number, line_ended, opened, longer, full, kept, followed, ended, fed, fed_all, answer_of, finish_of};
-ghost use Rattle.text.specs.TextFed.{answer_for, after};
+ghost use Rattle.text.specs.TextFed.{answer_for, after, TextHeld};
 
 // The line that is being read, by its number.
 #[derive(Clone, Copy)]
@@ -169,50 +170,30 @@ impl Held {
         }
     }
 
-    // One more number of the line, in the line's buffer; where the line is full nothing changes. Whether it had room.
-    fn keep(&mut self, value: u16) -> bool
-        ensures room { result ≡ not (full self.old.state) }
-        ensures after { self.new ≡ pick (full self.old.state) self.old (kept self.old value) }
-    {
-        match self.state.line {
-            Line::Words => put(&mut self.words, &mut self.state.counts.words, value),
-            Line::Tokens => put(&mut self.tokens, &mut self.state.counts.tokens, value),
-            Line::Cuts => put(&mut self.cuts, &mut self.state.counts.cuts, value),
-        }
-    }
-
-    // A number ends at a byte that is no digit.
-    fn end(&mut self, value: u16, byte: u8)
-        ensures { self.new ≡ ended self.old value byte }
-    {
-        if self.keep(value) {
-            self.state.followed(byte);
-        } else {
-            self.state.phase = Phase::Bad;
-        }
-    }
-
     // One byte.
-    #[tactic(auto, unfolding(crate::specs::Feeding::fed))]
     pub fn feed(&mut self, byte: u8)
         ensures { self.new ≡ fed self.old byte }
     {
-        match self.state.phase {
-            Phase::Fresh => self.state.opened(byte),
-            Phase::Number(value) if byte.is_ascii_digit() => self.state.longer(value, byte),
-            Phase::Number(value) => self.end(value, byte),
-            Phase::Space => self.state.started(byte),
-            Phase::Bad | Phase::Done => {}
-        }
+        take(
+            &mut self.state,
+            byte,
+            &mut self.words,
+            &mut self.tokens,
+            &mut self.cuts,
+        );
     }
 
     // The bytes of a piece.
     pub fn feed_piece(&mut self, piece: &[u8])
         ensures { self.new ≡ fed_all self.old piece.now }
     {
-        for byte in piece {
-            self.feed(*byte);
-        }
+        self.state = feed_piece(
+            self.state,
+            piece,
+            &mut self.words,
+            &mut self.tokens,
+            &mut self.cuts,
+        );
     }
 
     // A whole text in one piece, whatever has been read before.
@@ -223,6 +204,107 @@ impl Held {
         self.state = State::start();
         self.feed_piece(text);
         self.state.finish()
+    }
+}
+
+// The state after one byte, where the buffers are the caller's: one who is lent them has no `Held`, and to make one would copy all their words.
+pub fn feed(
+    state: State,
+    byte: u8,
+    words: &mut [u16; 2564],
+    tokens: &mut [u16; 1024],
+    cuts: &mut [u16; 64],
+) -> State
+    ensures { held result words.new tokens.new cuts.new ≡ fed (held state words.old tokens.old cuts.old) byte }
+{
+    let mut next = state;
+    take(&mut next, byte, words, tokens, cuts);
+    next
+}
+
+// The state after the bytes of a piece.
+pub fn feed_piece(
+    state: State,
+    piece: &[u8],
+    words: &mut [u16; 2564],
+    tokens: &mut [u16; 1024],
+    cuts: &mut [u16; 64],
+) -> State
+    ensures { held result words.new tokens.new cuts.new ≡ fed_all (held state words.old tokens.old cuts.old) piece.now }
+{
+    let mut read = state;
+    for byte in piece {
+        take(&mut read, *byte, words, tokens, cuts);
+    }
+    read
+}
+
+// A whole text in one piece.
+pub fn read_text(
+    text: &[u8],
+    words: &mut [u16; 2564],
+    tokens: &mut [u16; 1024],
+    cuts: &mut [u16; 64],
+) -> Result<Counts, Line>
+    ensures value { result ≡ answer_for (read_text text.now) }
+    ensures text_held { TextHeld words.old tokens.old cuts.old text.now words.new tokens.new cuts.new }
+{
+    feed_piece(State::start(), text, words, tokens, cuts).finish()
+}
+
+// One byte, in place: a `Held` and a piece are read without a state made anew at each byte.
+#[tactic(auto, unfolding(crate::specs::Feeding::fed))]
+fn take(
+    state: &mut State,
+    byte: u8,
+    words: &mut [u16; 2564],
+    tokens: &mut [u16; 1024],
+    cuts: &mut [u16; 64],
+)
+    ensures { held state.new words.new tokens.new cuts.new ≡ fed (held state.old words.old tokens.old cuts.old) byte }
+{
+    match state.phase {
+        Phase::Fresh => state.opened(byte),
+        Phase::Number(value) if byte.is_ascii_digit() => state.longer(value, byte),
+        Phase::Number(value) => end(state, value, byte, words, tokens, cuts),
+        Phase::Space => state.started(byte),
+        Phase::Bad | Phase::Done => {}
+    }
+}
+
+// A number ends at a byte that is no digit.
+fn end(
+    state: &mut State,
+    value: u16,
+    byte: u8,
+    words: &mut [u16; 2564],
+    tokens: &mut [u16; 1024],
+    cuts: &mut [u16; 64],
+)
+    ensures { held state.new words.new tokens.new cuts.new ≡ ended (held state.old words.old tokens.old cuts.old) value byte }
+{
+    if keep(state, value, words, tokens, cuts) {
+        state.followed(byte);
+    } else {
+        state.phase = Phase::Bad;
+    }
+}
+
+// One more number of the line, in the line's buffer; where the line is full nothing changes. Whether it had room.
+fn keep(
+    state: &mut State,
+    value: u16,
+    words: &mut [u16; 2564],
+    tokens: &mut [u16; 1024],
+    cuts: &mut [u16; 64],
+) -> bool
+    ensures room { result ≡ not (full state.old) }
+    ensures after { held state.new words.new tokens.new cuts.new ≡ pick (full state.old) (held state.old words.old tokens.old cuts.old) (kept (held state.old words.old tokens.old cuts.old) value) }
+{
+    match state.line {
+        Line::Words => put(words, &mut state.counts.words, value),
+        Line::Tokens => put(tokens, &mut state.counts.tokens, value),
+        Line::Cuts => put(cuts, &mut state.counts.cuts, value),
     }
 }
 
